@@ -1,0 +1,4 @@
+pub mod Steps
+pub mod Pulses
+pub mod Resolutions
+pub mod Stands

@@ -1,0 +1,3 @@
+// Text cut into words and numbers.
+pub mod number;
+pub mod words;
