@@ -11,6 +11,7 @@ use drives::pin::PinDrive;
 use layers::fence::Fence;
 use layers::fence::FenceAxis;
 use layers::fence::FenceDrive;
+use layers::piles::fenced_phase;
 use layers::piles::standard;
 use layers::reversed::Reversed;
 use layers::reversed::ReversedAxis;
@@ -83,31 +84,17 @@ fn begin<I: Read + Drop, O: Write>(source: &mut Source<I>, out: &mut O) -> io::R
         Pile::Phase => serve(PhaseAxis::new(), next, source, out),
         Pile::ReversedPin => serve(Reversed::new(PinAxis::new()), next, source, out),
         Pile::ReversedPhase => serve(Reversed::new(PhaseAxis::new()), next, source, out),
-        Pile::FencePin { down, up } => serve(
-            Fence::new(PinAxis::new(), down, up),
+        Pile::FencePin(far) => serve(
+            Fence::new(PinAxis::new(), far.down, far.up),
             next,
             source,
             out,
         ),
-        Pile::FenceReversedPhase { down, up } => serve(
-            Fence::new(Reversed::new(PhaseAxis::new()), down, up),
-            next,
-            source,
-            out,
-        ),
-        Pile::FenceFencePin {
-            down,
-            up,
-            inner_down,
-            inner_up,
-        } => {
-            serve(
-                Fence::new(Fence::new(PinAxis::new(), inner_down, inner_up), down, up),
-                next,
-                source,
-                out,
-            )
+        Pile::FenceReversedPhase(far) => serve(fenced_phase(far.down, far.up), next, source, out),
+        Pile::FenceFencePin { outer, inner } => {
+            let fenced = Fence::new(PinAxis::new(), inner.down, inner.up);
+            serve(Fence::new(fenced, outer.down, outer.up), next, source, out)
         }
-        Pile::Standard { down, up } => serve(standard(down, up), next, source, out),
+        Pile::Standard(far) => serve(standard(far.down, far.up), next, source, out),
     }
 }

@@ -4,6 +4,13 @@ use axis::direction::Direction;
 use scan::number::number;
 use scan::words::Words;
 
+// How far a fence lets its axis go from where it was made, in pulses.
+#[derive(Clone, Copy)]
+pub struct Allowance {
+    pub down: u32,
+    pub up: u32,
+}
+
 // The axis that a run is made on, by its layers from the top.
 #[derive(Clone, Copy)]
 pub enum Pile {
@@ -11,24 +18,10 @@ pub enum Pile {
     Phase,
     ReversedPin,
     ReversedPhase,
-    FencePin {
-        down: u32,
-        up: u32,
-    },
-    FenceReversedPhase {
-        down: u32,
-        up: u32,
-    },
-    FenceFencePin {
-        down: u32,
-        up: u32,
-        inner_down: u32,
-        inner_up: u32,
-    },
-    Standard {
-        down: u32,
-        up: u32,
-    },
+    FencePin(Allowance),
+    FenceReversedPhase(Allowance),
+    FenceFencePin { outer: Allowance, inner: Allowance },
+    Standard(Allowance),
 }
 
 #[derive(Clone, Copy)]
@@ -43,19 +36,22 @@ pub enum Row {
 
 pub fn read(row: &[u8]) -> Result<Row, Mistake> {
     let mut words = Words::new(row);
-    let meant = match words.next() {
-        [] => Row::Remark,
-        [b'-', b'-', ..] => return Ok(Row::Remark),
-        b"axis" => Row::Axis(chosen(&mut words)?),
-        b"windings" => Row::Windings {
+    let name = words.next();
+    if let [b'-', b'-', ..] = name {
+        return Ok(Row::Remark);
+    }
+    let meant = match text(name) {
+        "" => Row::Remark,
+        "axis" => Row::Axis(chosen(&mut words)?),
+        "windings" => Row::Windings {
             on: switch(words.next())?,
         },
-        b"pulse" => pulse(&mut words)?,
-        b"drive" => Row::Drive,
+        "pulse" => pulse(&mut words)?,
+        "drive" => Row::Drive,
         _ => return Err(Mistake::Unknown),
     };
-    match words.next() {
-        [] => Ok(meant),
+    match text(words.next()) {
+        "" => Ok(meant),
         _ => Err(Mistake::Extra),
     }
 }
@@ -74,67 +70,75 @@ fn pulse(words: &mut Words) -> Result<Row, Mistake> {
 }
 
 fn way(word: &[u8]) -> Result<Direction, Mistake> {
-    match word {
-        b"cw" => Ok(Direction::Clockwise),
-        b"ccw" => Ok(Direction::Counterclockwise),
+    match text(word) {
+        "cw" => Ok(Direction::Clockwise),
+        "ccw" => Ok(Direction::Counterclockwise),
         _ => Err(Mistake::Way),
     }
 }
 
 fn switch(word: &[u8]) -> Result<bool, Mistake> {
-    match word {
-        b"on" => Ok(true),
-        b"off" => Ok(false),
+    match text(word) {
+        "on" => Ok(true),
+        "off" => Ok(false),
         _ => Err(Mistake::Switch),
     }
 }
 
+fn read_allowance(words: &mut Words) -> Result<Allowance, Mistake> {
+    let down = amount(words.next())?;
+    let up = amount(words.next())?;
+    Ok(Allowance { down, up })
+}
+
 fn chosen(words: &mut Words) -> Result<Pile, Mistake> {
-    match words.next() {
-        b"pin" => Ok(Pile::Pin),
-        b"phase" => Ok(Pile::Phase),
-        b"reversed" => reversed(words.next()),
-        b"fence" => fenced(words),
-        b"standard" => {
-            let down = amount(words.next())?;
-            let up = amount(words.next())?;
-            Ok(Pile::Standard { down, up })
-        }
+    match text(words.next()) {
+        "pin" => Ok(Pile::Pin),
+        "phase" => Ok(Pile::Phase),
+        "reversed" => reversed(words.next()),
+        "fence" => fenced(words),
+        "standard" => Ok(Pile::Standard(read_allowance(words)?)),
         _ => Err(Mistake::Pile),
     }
 }
 
 fn reversed(drive: &[u8]) -> Result<Pile, Mistake> {
-    match drive {
-        b"pin" => Ok(Pile::ReversedPin),
-        b"phase" => Ok(Pile::ReversedPhase),
+    match text(drive) {
+        "pin" => Ok(Pile::ReversedPin),
+        "phase" => Ok(Pile::ReversedPhase),
         _ => Err(Mistake::Pile),
     }
 }
 
-// What stands below the outer fence.
 fn fenced(words: &mut Words) -> Result<Pile, Mistake> {
-    let down = amount(words.next())?;
-    let up = amount(words.next())?;
-    match words.next() {
-        b"pin" => Ok(Pile::FencePin { down, up }),
-        b"reversed" => match words.next() {
-            b"phase" => Ok(Pile::FenceReversedPhase { down, up }),
-            _ => Err(Mistake::Pile),
-        },
-        b"fence" => {
-            let inner_down = amount(words.next())?;
-            let inner_up = amount(words.next())?;
-            match words.next() {
-                b"pin" => Ok(Pile::FenceFencePin {
-                    down,
-                    up,
-                    inner_down,
-                    inner_up,
-                }),
-                _ => Err(Mistake::Pile),
-            }
-        }
+    let outer = read_allowance(words)?;
+    match text(words.next()) {
+        "pin" => Ok(Pile::FencePin(outer)),
+        "reversed" => fenced_reversed(outer, words.next()),
+        "fence" => fenced_twice(outer, words),
         _ => Err(Mistake::Pile),
+    }
+}
+
+fn fenced_reversed(outer: Allowance, drive: &[u8]) -> Result<Pile, Mistake> {
+    match text(drive) {
+        "phase" => Ok(Pile::FenceReversedPhase(outer)),
+        _ => Err(Mistake::Pile),
+    }
+}
+
+fn fenced_twice(outer: Allowance, words: &mut Words) -> Result<Pile, Mistake> {
+    let inner = read_allowance(words)?;
+    match text(words.next()) {
+        "pin" => Ok(Pile::FenceFencePin { outer, inner }),
+        _ => Err(Mistake::Pile),
+    }
+}
+
+// A word that is no text is no name either.
+fn text(word: &[u8]) -> &str {
+    match std::str::from_utf8(word) {
+        Ok(name) => name,
+        Err(_) => "?",
     }
 }
