@@ -26,7 +26,7 @@ pub fn starting_speed<A: Axis>() -> u32
 pub fn starting_acceleration<A: Axis>() -> u32
     ensures { λ r. ⌜ r ≡ acceleration-start (A·Axis .res) ⌝ }
 {
-    1_000 * A::resolution()
+    A::resolution() * 1_000
 }
 
 pub fn starting_low_speed<A: Axis>() -> u32
