@@ -73,17 +73,17 @@ least-at-top Low L A V some = record { there = refl; least = λ s e. omega arith
 least-at-top High L A V some = let r = climbing (ltb L V) L A V some (ltb-true L V) in record { there = r .0; least = r .1 }
 
 -- a ramp never stands still
-reached-some : (L A s : ℕ) → 1 ≤ A → 1 ≤ reached L A s
+pub reached-some : (L A s : ℕ) → 1 ≤ A → 1 ≤ reached L A s
 reached-some L A s some = by (eqb-tells L 0)
   where
-  by : ((eqb L 0 ≡ true) × (L ≡ 0)) ⊎ ((eqb L 0 ≡ false) × (L ≡ 0 → ⊥)) → 1 ≤ reached L A s
-  by (inl t) =
-    let one : lift L ≡ 1 = ap (λ b. cond b 1 0) (t .0) in
-    let step : 1 * 1 ≤ 2 * A * (s + lift L) = mul-le-mul {n₁ = 1} {m₁ = 1} {n₂ = 2 * A} {m₂ = s + lift L} (omega arith) (omega arith) in
-    omega arith
-  by (inr t) = let step : 1 * 1 ≤ L * L = square-mono 1 L (grind arith) in omega arith
+    by : ((eqb L 0 ≡ true) × (L ≡ 0)) ⊎ ((eqb L 0 ≡ false) × (L ≡ 0 → ⊥)) → 1 ≤ reached L A s
+    by (inl t) =
+        let one : lift L ≡ 1 = ap (λ b. cond b 1 0) (t .0) in
+        let step : 1 * 1 ≤ 2 * A * (s + lift L) = mul-le-mul {n₁ = 1} {m₁ = 1} {n₂ = 2 * A} {m₂ = s + lift L} (omega arith) (omega arith) in
+        omega arith
+    by (inr t) = let step : 1 * 1 ≤ L * L = square-mono 1 L (grind arith) in omega arith
 
-root-some : (n : ℕ) → 1 ≤ n → 1 ≤ root n
+pub root-some : (n : ℕ) → 1 ≤ n → 1 ≤ root n
 root-some n h = below-root 1 (root n) n (omega arith) (root-high n)
 
 -- no square of a ramp in range passes 64 bits

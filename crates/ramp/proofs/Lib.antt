@@ -1,2 +1,4 @@
 pub mod Climbs
+pub mod Profiles
 pub mod Squares
+pub mod Worked

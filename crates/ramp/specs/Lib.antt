@@ -1,2 +1,5 @@
+pub mod Courses
+pub mod Laws
+pub mod Levels
 pub mod Rates
 pub mod Roots

@@ -1,11 +1,14 @@
-// The rate of a level, and the level that a move climbs to.
+// The rate of a level, the level that a move climbs to, and the level of its next pulse.
 ghost use mathlib.Core.Path.{_≡_};
 ghost use mathlib.Core.Bool.{false};
 ghost use Rattle.std.specs.Options.{Cases};
-ghost use Rattle.ramp.specs.Rates.{rate-at, ceiling-level, reached, in-range, LeastAtTop};
+ghost use Rattle.ramp.specs.Rates.{in-range};
+ghost use Rattle.ramp.specs.Levels.{next-level};
+ghost use Rattle.ramp.specs.Courses.{rate-of, ceiling-of, Ceiling};
 use super::Ramp;
 use crate::climb;
 use crate::mode::SpeedMode;
+use crate::motor::Motor;
 use crate::rate::Rate;
 
 impl Ramp {
@@ -36,14 +39,14 @@ impl Ramp {
 
     // The level of the highest rate: the least at which it is reached.
     pub fn ceiling(&self) -> u64
-        ensures is { λ r. ⌜ r ≡ ceiling-level (now (self .entry) .mode) (now (self .entry) .low) (now (self .entry) .acceleration) (now (self .entry) .speed) ⌝ }
-        ensures least { λ r. ⌜ LeastAtTop (now (self .entry) .mode) (now (self .entry) .low) (now (self .entry) .acceleration) (now (self .entry) .speed) r ⌝ }
+        ensures is { λ r. ⌜ r ≡ ceiling-of (now (self .entry)) ⌝ }
+        ensures least { λ r. ⌜ Ceiling (now (self .entry)) r ⌝ }
     {
         self.ceiling
     }
 
     pub fn rate(&self, level: u32) -> Rate
-        ensures { λ r. ⌜ r .«per_second» ≡ rate-at (now (self .entry) .mode) (now (self .entry) .low) (now (self .entry) .acceleration) (now (self .entry) .speed) level ⌝ }
+        ensures { λ r. ⌜ r .«per_second» ≡ rate-of (now (self .entry)) level ⌝ }
     {
         match self.mode {
             SpeedMode::Low => Rate::of(self.low),
@@ -53,6 +56,19 @@ impl Ramp {
                 self.speed,
                 level,
             )),
+        }
+    }
+
+    // The level of the next pulse, with `left` pulses left and that one among them.
+    pub fn next(&self, motor: Motor, left: u32) -> u32
+        ensures { λ r. ⌜ r ≡ next-level motor (ceiling-of (now (self .entry))) left ⌝ }
+    {
+        match motor {
+            Motor::AtRest => 0,
+            Motor::Running { level } => {
+                let lowest = left.saturating_sub(1) as u64;
+                (level as u64 + 1).min(self.ceiling.min(lowest)) as u32
+            }
         }
     }
 }

@@ -15,7 +15,7 @@ pub returns : need.returns
 returns c =
     let a = c .args in
     let one : 1 ≤ c .whole-root .result =
-        high-some (a .low) (a .acceleration) (a .speed) (a .level) (c .lift .result) (c .whole-root .result) (c .lift .ensures) (c .whole-root .ensures .low) (c .whole-root .ensures .high) (omega arith)
+    high-some (a .low) (a .acceleration) (a .speed) (a .level) (c .lift .result) (c .whole-root .result) (c .lift .ensures) (c .whole-root .ensures .low) (c .whole-root .ensures .high) (omega arith)
     in
     record {
       is = c .min .ensures ∙ high-rate (a .low) (a .acceleration) (a .speed) (a .level) (c .lift .result) (c .whole-root .result) (c .lift .ensures) (c .whole-root .ensures .low) (c .whole-root .ensures .high) (c .if-low-speed .left);
