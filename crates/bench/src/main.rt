@@ -36,6 +36,9 @@ const HELP: &str = "bench: runs a bench script from standard input and prints wh
   windings on|off     switches the windings
   pulse cw|ccw [N]    N pulses (1) one way, and how many were taken
   drive               the two counts of a pin axis, or the coils of a phase axis
+  ramp L A V N        the pulses of a move of N, from rest to rest: a row each of number, level, rate,
+                      wait and ticks since the first; then its highest rate and whole time
+  ramp low L N        the same at low speed
   -- anything         a remark; empty rows are passed over
 
 A row that cannot be read is answered with its number and what is wrong, and the run goes on.";

@@ -3,13 +3,19 @@ use axis::interface::Axis;
 use axis::stroke::stroke;
 use drives::display::Drive;
 use drives::display::Shown;
+use ramp::course::Course;
+use ramp::mode::SpeedMode;
+use ramp::shape::Ramp;
 use script::mistake::Mistake;
 use script::mistake::MistakeDisplay;
+use script::row::Pace;
 use script::row::Row;
 use script::source::Source;
 use std::io;
 use std::io::Read;
 use std::io::Write;
+
+const TICKS_PER_MS: u64 = 15_000;
 
 pub fn serve<A: Axis + Drive + Drop, I: Read + Drop, O: Write>(
     mut axis: A,
@@ -51,6 +57,12 @@ fn perform<A: Axis + Drive, O: Write>(
             writeln!(out, "taken {taken} of {count}")?;
         }
         Row::Drive => show(axis.shown(), out)?,
+        Row::Ramp { pace, count } => {
+            let Some(ramp) = ramp_of(pace) else {
+                return Ok(Err(Mistake::Ramp));
+            };
+            show_move(ramp, count, out)?;
+        }
     }
     Ok(Ok(()))
 }
@@ -63,4 +75,41 @@ fn show<O: Write>(shown: Shown, out: &mut O) -> io::Result<()> {
         } => writeln!(out, "counts {clockwise} {counterclockwise}"),
         Shown::Coils { bits } => writeln!(out, "coils {bits}"),
     }
+}
+
+fn ramp_of(pace: Pace) -> Option<Ramp> {
+    match pace {
+        // At low speed neither acceleration nor speed counts.
+        Pace::Low { low } => Ramp::new(SpeedMode::Low, low, 1, 1),
+        Pace::High {
+            low,
+            acceleration,
+            speed,
+        } => Ramp::new(SpeedMode::High, low, acceleration, speed),
+    }
+}
+
+// Each pulse of a move: number, level, rate, wait, and ticks since the first; then the move as a whole.
+fn show_move<O: Write>(ramp: Ramp, count: u32, out: &mut O) -> io::Result<()> {
+    let mut course = Course::new(ramp, count);
+    let mut ticks = 0u64;
+    let mut highest = 0;
+    for number in 1..=count {
+        let Some(pulse) = course.next() else {
+            break;
+        };
+        let rate = pulse.rate.per_second();
+        writeln!(
+            out,
+            "pulse {number} {} {rate} {} {ticks}",
+            pulse.level, pulse.wait
+        )?;
+        ticks = ticks.saturating_add(pulse.wait as u64);
+        highest = rate.max(highest);
+    }
+    writeln!(
+        out,
+        "highest rate {highest}, time {} ms, {ticks} ticks",
+        ticks / TICKS_PER_MS
+    )
 }

@@ -8,3 +8,5 @@ pub mod pace;
 pub mod rate;
 pub mod root;
 pub mod shape;
+#[cfg(test)]
+mod tests;

@@ -24,6 +24,19 @@ pub enum Pile {
     Standard(Allowance),
 }
 
+// The numbers that a move's ramp depends on, not held to their ranges.
+#[derive(Clone, Copy)]
+pub enum Pace {
+    Low {
+        low: u32,
+    },
+    High {
+        low: u32,
+        acceleration: u32,
+        speed: u32,
+    },
+}
+
 #[derive(Clone, Copy)]
 pub enum Row {
     // A remark, or an empty row.
@@ -32,6 +45,8 @@ pub enum Row {
     Windings { on: bool },
     Pulse { way: Direction, count: u32 },
     Drive,
+    // A move of so many pulses, from rest to rest.
+    Ramp { pace: Pace, count: u32 },
 }
 
 pub fn read(row: &[u8]) -> Result<Row, Mistake> {
@@ -48,6 +63,7 @@ pub fn read(row: &[u8]) -> Result<Row, Mistake> {
         },
         "pulse" => pulse(&mut words)?,
         "drive" => Row::Drive,
+        "ramp" => ramp(&mut words)?,
         _ => return Err(Mistake::Unknown),
     };
     match text(words.next()) {
@@ -67,6 +83,28 @@ fn pulse(words: &mut Words) -> Result<Row, Mistake> {
         digits => amount(digits)?,
     };
     Ok(Row::Pulse { way, count })
+}
+
+fn ramp(words: &mut Words) -> Result<Row, Mistake> {
+    let first = words.next();
+    let pace = match text(first) {
+        "low" => Pace::Low {
+            low: amount(words.next())?,
+        },
+        _ => climb(amount(first)?, words)?,
+    };
+    let count = amount(words.next())?;
+    Ok(Row::Ramp { pace, count })
+}
+
+fn climb(low: u32, words: &mut Words) -> Result<Pace, Mistake> {
+    let acceleration = amount(words.next())?;
+    let speed = amount(words.next())?;
+    Ok(Pace::High {
+        low,
+        acceleration,
+        speed,
+    })
 }
 
 fn way(word: &[u8]) -> Result<Direction, Mistake> {
