@@ -1,8 +1,8 @@
 // The rows of a script, served on one axis of any kind.
+use axis::display::Drive;
+use axis::display::Shown;
 use axis::interface::Axis;
 use axis::stroke::stroke;
-use drives::display::Drive;
-use drives::display::Shown;
 use ramp::course::Course;
 use ramp::mode::SpeedMode;
 use ramp::shape::Ramp;

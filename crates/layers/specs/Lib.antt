@@ -1,2 +1,1 @@
 pub mod Fences
-pub mod Piles

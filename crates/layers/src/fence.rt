@@ -5,9 +5,9 @@ ghost use lib.IntN.{pos};
 ghost use Rattle.layers.specs.Fences.{low-end, high-end};
 use crate::span::Span;
 use axis::direction::Direction;
+use axis::display::Drive;
+use axis::display::Shown;
 use axis::interface::Axis;
-use drives::display::Drive;
-use drives::display::Shown;
 
 #[derive(Drop)]
 pub struct Fence<X> {

@@ -1,7 +1,4 @@
-// Layers over any axis, and the piles that are shipped.
+// Layers over any axis.
 pub mod fence;
-pub mod piles;
 pub mod reversed;
 pub mod span;
-#[cfg(test)]
-mod tests;

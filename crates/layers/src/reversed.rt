@@ -2,9 +2,9 @@
 ghost use mathlib.Core.Path.{_≡_};
 ghost use lib.IntN.{negℤ};
 use axis::direction::Direction;
+use axis::display::Drive;
+use axis::display::Shown;
 use axis::interface::Axis;
-use drives::display::Drive;
-use drives::display::Shown;
 
 #[derive(Drop)]
 pub struct Reversed<X> {

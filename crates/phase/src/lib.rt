@@ -1,0 +1,2 @@
+// The phase axis.
+pub mod drive;

@@ -1,0 +1,2 @@
+// The piles of layers and drives that are shipped.
+pub mod shipped;

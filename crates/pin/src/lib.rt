@@ -1,0 +1,3 @@
+// The pin axis.
+pub mod drive;
+pub mod example;
