@@ -18,3 +18,6 @@ pub struct Ring<'a, T: Copy> {
     ghost within: { start ≤ length (cells .now) },
     ghost begins: { 0 < length (cells .now) → start < length (cells .now) },
 }
+
+#[cfg(test)]
+mod tests;
