@@ -1,5 +1,0 @@
-// Examples of drives, layers and piles, worked by hand; in a crate of their own, since a crate with tests is proved twice.
-#[cfg(test)]
-mod drives;
-#[cfg(test)]
-mod layers;
