@@ -1,5 +1,9 @@
 // Rows out of a stream of any bytes and any length, in memory of one row.
-ghost use Prim.Native.Nat.{_≤_};
+ghost use mathlib.Core.Path.{_≡_};
+ghost use Prim.Native.Nat.{_≤_, _+_, _-_, _^_, min};
+ghost use Rattle.std.specs.Options.{Cases as BySome};
+ghost use Rattle.std.specs.Results.{Cases};
+ghost use Rattle.std.specs.Vec.{made};
 use crate::mistake::Mistake;
 use crate::row;
 use crate::row::Row;
@@ -25,7 +29,9 @@ pub struct Source<R> {
 }
 
 impl<R: Read + Drop> Source<R> {
-    pub fn new(heap: Global, stream: R) -> Result<Source<R>, AllocError> {
+    pub fn new(heap: Global, stream: R) -> Result<Source<R>, AllocError>
+        ensures { λ r. ⌜ made r (λ s. s .number ≡ 0) ⌝ }
+    {
         Ok(Source {
             stream,
             chunk: [0; 512],
@@ -37,12 +43,16 @@ impl<R: Read + Drop> Source<R> {
     }
 
     // The number of the row read last, from 1.
-    pub fn number(&self) -> u64 {
+    pub fn number(&self) -> u64
+        ensures { λ r. ⌜ r ≡ now (self .entry) .number ⌝ }
+    {
         self.number
     }
 
-    // The next row as it is read, or none at the end of the stream.
-    pub fn next(&mut self) -> io::Result<Option<Result<Row, Mistake>>> {
+    // The next row as it is read, or none at the end of the stream; each row is counted once.
+    pub fn next(&mut self) -> io::Result<Option<Result<Row, Mistake>>>
+        ensures { λ r. ⌜ Cases r (λ row. BySome row (now (self .exit) .number ≡ now (self .entry) .number) (λ _. now (self .exit) .number ≡ min (now (self .entry) .number + 1) (2 ^ 64 - 1))) (λ _. now (self .exit) .number ≡ now (self .entry) .number) ⌝ }
+    {
         self.row.clear();
         let mut long = false;
         let mut empty = true;
@@ -70,7 +80,9 @@ impl<R: Read + Drop> Source<R> {
         Ok(Some(row::read(self.row.as_slice())))
     }
 
-    fn byte(&mut self) -> io::Result<Option<u8>> {
+    fn byte(&mut self) -> io::Result<Option<u8>>
+        ensures { λ _. ⌜ now (self .exit) .number ≡ now (self .entry) .number ⌝ }
+    {
         if self.at == self.end {
             self.at = 0;
             self.end = 0;
