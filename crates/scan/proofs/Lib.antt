@@ -1,2 +1,3 @@
 mod Digits
 mod Runs
+mod Tens

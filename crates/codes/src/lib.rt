@@ -1,0 +1,3 @@
+// The codes of program lines and of host lines.
+pub mod host;
+pub mod program;
