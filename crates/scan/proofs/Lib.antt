@@ -1,3 +1,3 @@
-mod Digits
-mod Runs
-mod Tens
+pub mod Digits
+pub mod Fronts
+pub mod Tens

@@ -1,3 +1,4 @@
 pub mod Cuts
 pub mod Fields
 pub mod Numbers
+pub mod Runs

@@ -1,20 +1,21 @@
 // A row cut at its blanks.
 ghost use mathlib.Core.Path.{_≡_};
-ghost use mathlib.Core.Bool.{Bool};
+ghost use mathlib.Core.Bool.{true};
 ghost use Prim.Native.Nat.{_≤_, _<_, _^_};
 ghost use lib.ListN.{length};
-ghost use Rattle.scan.specs.Cuts.{blank, leading, first-word, after-word};
+ghost use Rattle.scan.specs.Cuts.{blank-is, first-word, after-word};
+ghost use Rattle.scan.specs.Runs.{run};
 
 // A space, a tab, or the carriage return that some hosts put before the line feed.
 fn is_blank(byte: u8) -> bool
-    ensures { λ r. ⌜ r ≡ blank byte ⌝ }
+    ensures { λ r. ⌜ r ≡ blank-is true byte ⌝ }
 {
     byte == b' ' || byte == b'\t' || byte == b'\r'
 }
 
 // How many bytes at the front are blanks, or are none.
 fn leading(bytes: &[u8], blanks: bool) -> usize
-    ensures is { λ r. ⌜ r ≡ leading blanks (now (bytes .entry)) ⌝ }
+    ensures is { λ r. ⌜ r ≡ run (blank-is blanks) (now (bytes .entry)) ⌝ }
     ensures within { λ r. ⌜ r ≤ length (now (bytes .entry)) ⌝ }
 {
     for (i, byte) in bytes.iter().enumerate() {

@@ -8,7 +8,8 @@ use lib.ListN.{length}
 use native.Mathlib.Omega.{arith}
 use Rattle.std.proofs.shelf.Ways.{tells}
 use Rattle.std.specs.declared.option.Option.the-variants.{None, Some}
-use Rattle.words.specs.Bytes.{blank, letter, past}
+use Rattle.words.specs.Bytes.{blank, letter}
+use Rattle.scan.specs.Runs.{past}
 use Rattle.words.specs.Words.{behind}
 use Rattle.std.specs.declared.option.Option.{Option}
 use Rattle.std.specs.declared.result.Result.the-variants.{Ok}

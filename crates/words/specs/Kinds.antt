@@ -5,7 +5,8 @@ use Prim.Native.Nat.{ℕ, _<_, _≤_}
 use lib.ListN.{length, getD}
 use Rattle.std.specs.declared.result.Result.{Result}
 use Rattle.std.specs.declared.result.Result.the-variants.{Ok, Err}
-use Rattle.words.specs.Bytes.{blank, past}
+use Rattle.words.specs.Bytes.{blank}
+use Rattle.scan.specs.Runs.{past}
 use Rattle.words.specs.declared.word.ByteFault.{ByteFault}
 use Rattle.words.specs.declared.word.ByteFault.the-variants.{TooLong, Blank, OpensNone}
 use Rattle.words.specs.declared.kind.Line.{Line}

@@ -4,7 +4,8 @@ use mathlib.Core.List.{List, []}
 use Prim.Native.Nat.{ℕ}
 use lib.Dec.{eqb}
 use lib.ListN.{getD, drop}
-use Rattle.words.specs.Bytes.{blank, digit, span, past}
+use Rattle.words.specs.Bytes.{blank, digit}
+use Rattle.scan.specs.Runs.{span, past}
 use Rattle.words.specs.declared.word.Sign.{Sign}
 use Rattle.words.specs.declared.word.Sign.the-variants.{Absent, Plus, Minus}
 use Rattle.words.specs.declared.word.Word.{Word}

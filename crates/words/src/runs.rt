@@ -2,7 +2,8 @@
 ghost use mathlib.Core.Path.{_≡_};
 ghost use Prim.Native.Nat.{_≤_};
 ghost use lib.ListN.{length, take, drop};
-ghost use Rattle.words.specs.Bytes.{blank, digit, run, past, span};
+ghost use Rattle.words.specs.Bytes.{blank, digit};
+ghost use Rattle.scan.specs.Runs.{run, past, span};
 ghost use Rattle.words.specs.Words.{sign-at, after-sign};
 use crate::word::Sign;
 

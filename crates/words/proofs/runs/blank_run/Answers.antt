@@ -4,7 +4,7 @@ use lib.ListN.{getD}
 use native.Mathlib.Omega.{arith}
 use Rattle.std.proofs.shelf.Ways.{tells}
 use Rattle.words.specs.Bytes.{blank}
-use Rattle.words.proofs.Fronts.{goes-on, stops, ends}
+use Rattle.scan.proofs.Fronts.{goes-on, stops, ends}
 use Rattle.words.proofs.runs.blank_run.Needs as need
 
 pub returns-then-byte-ne32 : need.returns-then-byte-ne32

@@ -4,7 +4,7 @@ use lib.ListN.{getD}
 use native.Mathlib.Omega.{arith}
 use Rattle.std.proofs.shelf.Ways.{tells}
 use Rattle.words.specs.Bytes.{digit}
-use Rattle.words.proofs.Fronts.{goes-on, stops, ends}
+use Rattle.scan.proofs.Fronts.{goes-on, stops, ends}
 use Rattle.words.proofs.runs.digit_run.Needs as need
 
 pub returns-then-not-is-digit : need.returns-then-not-is-digit
