@@ -5,6 +5,8 @@ ghost use Prim.Native.Nat.{_≤_, _^_};
 ghost use Rattle.std.specs.Options.{Cases};
 ghost use Rattle.scan.specs.Numbers.{numeral, value};
 
+const LARGEST: u64 = 4_294_967_295;
+
 // One or more digits, up to 4,294,967,295.
 pub fn number(word: &[u8]) -> Option<u32>
     ensures { λ r. ⌜ Cases r (numeral (now (word .entry)) ≡ true → 2 ^ 32 ≤ value (now (word .entry))) (λ n. (n ≡ value (now (word .entry))) × (numeral (now (word .entry)) ≡ true)) ⌝ }
@@ -18,7 +20,7 @@ pub fn number(word: &[u8]) -> Option<u32>
             return None;
         }
         n = n * 10 + (*digit - b'0') as u64;
-        if n > 4_294_967_295 {
+        if n > LARGEST {
             return None;
         }
     }

@@ -15,8 +15,8 @@ returns-then-digit-lt48 c =
     in
     no-digit (c .args .word .now) (c .loop-digit .digit-index) (c .loop-digit-test .taken) none (c .loop-digit .inv .1)
 
-pub returns-then-n-gt4294967295 : need.returns-then-n-gt4294967295
-returns-then-n-gt4294967295 c =
+pub returns-then-n-gt-LARGEST : need.returns-then-n-gt-LARGEST
+returns-then-n-gt-LARGEST c =
     λ _. too-large (c .args .word .now) (c .loop-digit .digit-index) (c .loop-digit-test .taken) (c .loop-digit .n) (omega arith) (c .loop-digit .inv .0)
 
 pub loop-digit-again : need.loop-digit-again
