@@ -19,7 +19,7 @@ impl RunFormat {
         }
     }
 
-    pub fn numbered(number: i32) -> RunFormat
+    pub(crate) fn numbered(number: i32) -> RunFormat
         requires { ⌜ pos 1 ≤ℤ number ⌝ ∗ ⌜ number ≤ℤ pos 3 ⌝ }
         ensures { λ r. ⌜ format-number r ≡ number ⌝ }
     {
