@@ -37,8 +37,8 @@ few f ds all =
     let h : read_on 0 (drop k ds) < 10 ^ (0 + length (drop k ds)) = below 0 0 (drop k ds) (omega arith) (dropped k ds all) in
     omega (arith, pow-le-pow_right {n = 10} (omega arith) {i = 0 + length (drop k ds)} {j = width f} (omega (arith, length-drop k ds)))
 
-one_more : (k : Bool) (b : ℕ) (bs : List ℕ) → digit b ≡ k → digits (span digit bs) ≡ true → digits (take (cond k (suc (run digit bs)) 0) (b ∷ bs)) ≡ true
-one_more true b bs e all = ap (λ d. d && digits (span digit bs)) e ∙ all
+one_more : (k : Bool) (b : ℕ) (bs : List ℕ) → digit b ≡ k → digits (span digit bs) ≡ true → digits (take (cond k (1 + run digit bs) 0) (b ∷ bs)) ≡ true
+one_more true b bs e all = let s : 1 + run digit bs ≡ suc (run digit bs) = omega arith in rw s (ap (λ d. d && digits (span digit bs)) e ∙ all)
 one_more false b bs e all = refl
 
 -- a run of digits is all digits

@@ -1,4 +1,4 @@
 use Rattle.ramp.proofs.root.+whole_root.Given as goal
 
-abbrev pub decreases-whole-root : goal.decreases-whole-root
-decreases-whole-root l = l.n
+abbrev pub decreases-whole_root : goal.decreases-whole_root
+decreases-whole_root l = l.n
