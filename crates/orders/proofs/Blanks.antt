@@ -11,7 +11,7 @@ use Rattle.orders.specs.declared.fault.WordFault.{WordFault}
 use Rattle.orders.specs.declared.fault.WordFault.TheVariants.{Byte}
 use Rattle.orders.proofs.ByKind.{short}
 use Rattle.orders.proofs.Outcomes.{other}
-use Rattle.orders.proofs.Widening.{Tight, tight, tight_same}
+use Rattle.orders.proofs.Widening.{Tight, tight, blank_more, past_on}
 use Rattle.orders.proofs.Unplaced.{same_order, same_transfer}
 
 and_not : (a b : Bool) → b ≡ false → (a && b) ≡ false
@@ -65,13 +65,14 @@ widened R (b ∷ bs) (c ∷ cs) p h w =
 fronted : (R : ℕ) (bs : List ℕ) → Plain bs → length bs < 80 → (get_or bs 0 0 ≡ 33 → ⊥) → unplaced (reading R (32 ∷ bs)) ≡ unplaced (reading R bs)
 fronted R bs p h bang =
     ap (unplaced {T = Order}) (plain R (32 ∷ bs) (omega arith) ((λ e. omega arith), (λ e. omega arith), (λ e. omega arith)))
+    ∙ ap (λ zs. unplaced (by_front R (eqb (length zs) 0) false (32 ∷ bs))) (past_on blank 32 bs refl)
     ∙ by (eqb (length (past blank bs)) 0)
     ∙ ap (λ k. unplaced (by_front R (eqb (length (past blank bs)) 0) k bs)) (sym (other (get_or bs 0 0) 33 bang))
     ∙ sym (ap (unplaced {T = Order}) (plain R bs (omega arith) p))
   where
     by : (none : Bool) → unplaced (by_front R none false (32 ∷ bs)) ≡ unplaced (by_front R none false bs)
     by true = refl
-    by false = same_order R (length bs) (suc (length bs)) bs (32 ∷ bs) (tight_same (past blank bs))
+    by false = same_order R (length bs) (suc (length bs)) bs (32 ∷ bs) (blank_more bs)
 
 pub blank_law : (R : ℕ) (bs : List ℕ) → BlankLaw R bs
 blank_law R bs p h = ((λ cs w. widened R bs cs p h w), (λ bang. fronted R bs p h bang))

@@ -1,5 +1,5 @@
 -- A code is found by its number, and only by it.
-use Rattle.std.proofs.Common.{◌≡◌, ℕ, cond, List, [], ◌∷◌, Some, None, Option, sym, refl, ap, ◌∙◌, MatchOption}
+use Rattle.std.proofs.Common.{◌≡◌, ℕ, ◌<◌, ◌≤◌, cond, arith, List, [], ◌∷◌, Some, None, Option, sym, refl, ap, ◌∙◌, MatchOption}
 use Rattle.codes.specs.Program as program
 use Rattle.codes.specs.Host as host
 use Rattle.settings.specs.Parameters as parameters
@@ -105,3 +105,26 @@ at_parameter L.AutoReverse = refl
 pub parameter : (o : Option Parameter) (n : ℕ) → MatchOption o ((p : Parameter) → parameters.code p ≡ n → ⊥) (λ p. parameters.code p ≡ n) → o ≡ parameter_coded n
 parameter None n h = sym (no_parameter n h)
 parameter (Some p) n h = sym (ap parameter_coded (sym h) ∙ at_parameter p)
+
+-- every code is one byte
+one_byte : (p : Parameter) → parameters.code p < 256
+one_byte L.RunFormat = omega arith
+one_byte L.HomeDirection = omega arith
+one_byte L.JogSpeed = omega arith
+one_byte L.Acceleration = omega arith
+one_byte L.LowSpeed = omega arith
+one_byte L.StepLength = omega arith
+one_byte L.HomeSpeed = omega arith
+one_byte L.HomeOffset = omega arith
+one_byte L.ClockwiseLimit = omega arith
+one_byte L.CounterclockwiseLimit = omega arith
+one_byte L.StartLine = omega arith
+one_byte L.ChangeoverTime = omega arith
+one_byte L.SwitchInputs = omega arith
+one_byte L.FurtherRuns = omega arith
+one_byte L.TransferCode = omega arith
+one_byte L.Backlash = omega arith
+one_byte L.AutoReverse = omega arith
+
+pub no_byte : (n : ℕ) → 256 ≤ n → None ≡ parameter_coded n
+no_byte n h = sym (no_parameter n (λ p e. let small = one_byte p in let z : ⊥ = omega arith in z))

@@ -4,7 +4,7 @@ use Rattle.std.proofs.lemmas.List.{drop-take}
 use Rattle.scan.specs.Runs.{run, past}
 use Rattle.words.specs.Bytes.{blank, digit}
 use Rattle.words.specs.Words.{after_sign, takes_sign, number_at, digits_at, behind}
-use Rattle.orders.proofs.Widening.{split}
+use Rattle.orders.proofs.Widening.{split, longer}
 
 -- f drops so many bytes at the front, and looks at no more of them than the one behind
 pub record Cutter (f : List ℕ → List ℕ) : Type 0 where
@@ -23,18 +23,18 @@ take_none (suc m) = refl
 
 none_used : (kind : ℕ → Bool) (x : ℕ) (m : ℕ) (xs : List ℕ) → kind x ≡ false → run kind (take m (x ∷ xs)) ≡ 0
 none_used kind x zero xs f = refl
-none_used kind x (suc m) xs f = ap (λ k. cond k (suc (run kind (take m xs))) 0) f
+none_used kind x (suc m) xs f = longer kind x (take m xs) f
 
 pub run_near : (kind : ℕ → Bool) (m : ℕ) (xs : List ℕ) → run kind (take (run kind xs + m) xs) ≡ run kind xs
 run_near kind m [] = ap (run kind) (take_none (0 + m))
 run_near kind m (x ∷ xs) =
     split (kind x)
     (λ t.
-    let e : run kind (x ∷ xs) ≡ suc (run kind xs) = ap (λ k. cond k (suc (run kind xs)) 0) t in
+    let e : run kind (x ∷ xs) ≡ suc (run kind xs) = longer kind x xs t in
     let s : run kind (x ∷ xs) + m ≡ suc (run kind xs + m) = omega arith in
-    ap (λ j. run kind (take j (x ∷ xs))) s ∙ ap (λ k. cond k (suc (run kind (take (run kind xs + m) xs))) 0) t ∙ ap suc (run_near kind m xs) ∙ sym e)
+    ap (λ j. run kind (take j (x ∷ xs))) s ∙ longer kind x (take (run kind xs + m) xs) t ∙ ap suc (run_near kind m xs) ∙ sym e)
     (λ f.
-    let e : run kind (x ∷ xs) ≡ 0 = ap (λ k. cond k (suc (run kind xs)) 0) f in
+    let e : run kind (x ∷ xs) ≡ 0 = longer kind x xs f in
     none_used kind x (run kind (x ∷ xs) + m) xs f ∙ sym e)
 
 abbrev pub past_cutter : (kind : ℕ → Bool) → Cutter (past kind)

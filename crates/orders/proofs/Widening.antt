@@ -1,5 +1,5 @@
 -- One blank more leaves the words as they are.
-use Rattle.std.proofs.Common.{◌≡◌, ℕ, suc, Bool, true, false, cond, ◌||◌, eqb, ◌⊎◌, List, [], ◌∷◌, take, drop, sym, refl, ap, ◌∙◌, subst, inl, inr, arith}
+use Rattle.std.proofs.Common.{◌≡◌, ℕ, suc, ◌+◌, Bool, true, false, cond, ◌||◌, eqb, ◌⊎◌, List, [], ◌∷◌, take, drop, sym, refl, ap, ◌∙◌, subst, inl, inr, arith}
 use Rattle.std.proofs.lemmas.Bool.Decides.{nat_tests}
 use Rattle.scan.specs.Runs.{run, span, past}
 use Rattle.words.specs.Bytes.{blank, digit}
@@ -34,17 +34,20 @@ split true f g = f refl
 split false f g = g refl
 
 module _ (kind : ℕ → Bool) (x : ℕ) (xs : List ℕ) where
+  pub longer : {b : Bool} → kind x ≡ b → run kind (x ∷ xs) ≡ cond b (suc (run kind xs)) 0
+  longer {b = b} e = let s : 1 + run kind xs ≡ suc (run kind xs) = omega arith in ap (λ k. cond k (1 + run kind xs) 0) e ∙ ap (λ n. cond b n 0) s
+
   pub past_on : kind x ≡ true → past kind (x ∷ xs) ≡ past kind xs
-  past_on e = ap (λ k. drop (cond k (suc (run kind xs)) 0) (x ∷ xs)) e
+  past_on e = ap (λ k. drop k (x ∷ xs)) (longer e)
 
   pub past_at : kind x ≡ false → past kind (x ∷ xs) ≡ x ∷ xs
-  past_at e = ap (λ k. drop (cond k (suc (run kind xs)) 0) (x ∷ xs)) e
+  past_at e = ap (λ k. drop k (x ∷ xs)) (longer e)
 
   pub span_on : kind x ≡ true → span kind (x ∷ xs) ≡ x ∷ span kind xs
-  span_on e = ap (λ k. take (cond k (suc (run kind xs)) 0) (x ∷ xs)) e
+  span_on e = ap (λ k. take k (x ∷ xs)) (longer e)
 
   pub span_at : kind x ≡ false → span kind (x ∷ xs) ≡ []
-  span_at e = ap (λ k. take (cond k (suc (run kind xs)) 0) (x ∷ xs)) e
+  span_at e = ap (λ k. take k (x ∷ xs)) (longer e)
 
 both : (P : List ℕ → List ℕ → Type 0) {xs ys zs ws : List ℕ} → xs ≡ zs → ys ≡ ws → P zs ws → P xs ys
 both P {ys = ys} {zs = zs} e f h = subst (λ xs. P xs ys) (sym e) (subst (λ ws. P zs ws) (sym f) h)
@@ -52,6 +55,10 @@ both P {ys = ys} {zs = zs} e f h = subst (λ xs. P xs ys) (sym e) (subst (λ ws.
 past_first : (x y : ℕ) (xs ys : List ℕ) → x ≡ y → blank x ≡ false → Wider xs ys ⊎ ((x ≡ 32) × (ys ≡ 32 ∷ xs)) → Tight (past blank (x ∷ xs)) (past blank (y ∷ ys))
 past_first x y xs ys e f (inl w) = both Tight (past_at blank x xs f) (past_at blank y ys (ap blank (sym e) ∙ f)) (e, w)
 past_first x y xs ys e f (inr w) = let z : ⊥ = grind (arith, nat_tests) in elim z [ ]
+
+-- one blank more at the front
+pub blank_more : (xs : List ℕ) → Tight (past blank xs) (past blank (32 ∷ xs))
+blank_more xs = subst (Tight (past blank xs)) (sym (past_on blank 32 xs refl)) (tight_same (past blank xs))
 
 -- past the blanks at the front
 pub tight : (xs ys : List ℕ) → Wider xs ys → Tight (past blank xs) (past blank ys)
@@ -61,7 +68,7 @@ tight (x ∷ xs) [] w = elim w [ ]
 tight (x ∷ xs) (y ∷ ys) w =
     split (blank x)
     (λ t. both Tight (past_on blank x xs t) (past_on blank y ys (ap blank (sym w.0) ∙ t))
-    (elim w.1 [ inl v ↦ tight xs ys v | inr v ↦ subst (λ zs. Tight (past blank xs) (past blank zs)) (sym v.1) (tight_same (past blank xs)) ]))
+    (elim w.1 [ inl v ↦ tight xs ys v | inr v ↦ subst (λ zs. Tight (past blank xs) (past blank zs)) (sym v.1) (blank_more xs) ]))
     (λ f. past_first x y xs ys w.0 f w.1)
 
 -- past the digits at the front

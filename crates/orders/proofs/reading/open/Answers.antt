@@ -12,23 +12,23 @@ use Rattle.orders.specs.declared.fault.WordFault.TheVariants.{Byte}
 use Rattle.orders.proofs.ByKind.{behind_bang, in_words}
 use Rattle.orders.proofs.reading.open.Goals as goal
 
-pub returns-in-err-transfer-of : goal.returns-in-err-transfer-of
-returns-in-err-transfer-of c =
+pub returns-in_err-transfer_of-in-Transfer : goal.returns-in_err-transfer_of-in-Transfer
+returns-in_err-transfer_of-in-Transfer c =
     let R = c.args.settings.now.resolution in
     let bs = c.args.line.now in
-    let is : IsKind bs (Ok (Transfer c.in-Transfer.rest)) = subst (λ (l : Line). IsKind bs (Ok l)) c.in-Transfer.is c.in-ok-kind.ensures in
-    let fault : c.from-residual-in-err-transfer-of.result ≡ Err c.in-err-transfer-of.field-0.0 = search rules in
+    let is : IsKind bs (Ok (Transfer c.in-Transfer.rest)) = subst (λ (l : Line). IsKind bs (Ok l)) c.in-Transfer.is c.in_ok-kind.ensures in
+    let fault : c.from_residual-in_err-transfer_of-in-Transfer.result ≡ Err c.in_err-transfer_of-in-Transfer.field-0.0 = search rules in
     subst (Opened R bs) (sym fault)
-    (sym (behind_bang R bs is.0 c.in-Transfer.rest.now is.1) ∙ sym c.transfer-of.ensures.order ∙ c.in-err-transfer-of.was)
+    (sym (behind_bang R bs is.0 c.in-Transfer.rest.now is.1) ∙ sym c.transfer_of.ensures.order ∙ c.in_err-transfer_of-in-Transfer.was)
 
-pub returns-in-err-check : goal.returns-in-err-check
-returns-in-err-check c =
+pub returns-in_err-check-in-Words : goal.returns-in_err-check-in-Words
+returns-in_err-check-in-Words c =
     let R = c.args.settings.now.resolution in
     let bs = c.args.line.now in
-    let is : IsKind bs (Ok (Words c.in-Words.rest)) = subst (λ (l : Line). IsKind bs (Ok l)) c.in-Words.is c.in-ok-kind.ensures in
-    let bad = c.in-err-check.ensures in
+    let is : IsKind bs (Ok (Words c.in-Words.rest)) = subst (λ (l : Line). IsKind bs (Ok l)) c.in-Words.is c.in_ok-kind.ensures in
+    let bad = c.in_err-check-in-Words.ensures in
     let first : first_bad (length bs) (length bs) bs ≡ Some bad.0 = ap (λ xs. first_bad (length xs) (length bs) xs) (sym is.1) ∙ bad.1.1 in
-    let fault : c.from-residual-in-err-check.result ≡ Err (Byte c.in-err-check.field-0.0) = search rules in
+    let fault : c.from_residual-in_err-check-in-Words.result ≡ Err (Byte c.in_err-check-in-Words.field-0.0) = search rules in
     subst (Opened R bs) (sym fault)
     (sym (in_words R bs is.0 is.2 is.3 is.4 is.5)
     ∙ ap (λ (o : Option ℕ). unless_bad o (and_then (heard_of R false (words (length bs) bs)) (λ h. Ok (order h)))) first

@@ -9,4 +9,4 @@ pub returns : goal.returns
 returns c =
     let R = c.args.settings.now.resolution in
     let bs = c.args.line.now in
-    record { order = c.by-kind.ensures; widths = subst Narrow (sym c.by-kind.ensures) (narrow R bs); first = first_byte_law R bs; blanks = blank_law R bs }
+    record { order = c.by_kind.ensures; widths = subst Narrow (sym c.by_kind.ensures) (narrow R bs); first = first_byte_law R bs; blanks = blank_law R bs }

@@ -2,13 +2,13 @@ use Rattle.std.proofs.Common.{◌≡◌, suc, ◌+◌, ◌-◌, Bool, true, leng
 use Rattle.orders.specs.Hearings.{in_all, Hears}
 use Rattle.orders.proofs.telling.told.Goals as goal
 
-pub returns-in-err-word : goal.returns-in-err-word
-returns-in-err-word c =
+pub returns-in_err-word : goal.returns-in_err-word
+returns-in_err-word c =
     let R = c.args.settings.now.resolution in
     let k = length c.args.rest.now - (c.loop-turn.turn + 1) in
     let more : suc k ≡ length c.args.rest.now - c.loop-turn.turn = omega arith in
-    let fault : c.from-residual.result ≡ Err c.in-err-word.field-0.0 = search rules in
-    fault ∙ sym (c.in-err-word.ensures k) ∙ ap (λ j. in_all R j c.loop-turn.hearing) more ∙ c.loop-turn.invariant
+    let fault : c.from_residual.result ≡ Err c.in_err-word.field-0.0 = search rules in
+    fault ∙ sym (c.in_err-word.ensures k) ∙ ap (λ j. in_all R j c.loop-turn.hearing) more ∙ c.loop-turn.invariant
 
 pub loop-turn-preserved : goal.loop-turn-preserved
 loop-turn-preserved c =
@@ -16,7 +16,7 @@ loop-turn-preserved c =
     let k = length c.args.rest.now - (c.loop-turn.turn + 1) in
     let more : suc k ≡ length c.args.rest.now - c.loop-turn.turn = omega arith in
     let heard : Hears R c.loop-turn.hearing c.word.new.self (Ok true) =
-    subst (λ (b : Bool). Hears R c.loop-turn.hearing c.word.new.self (Ok b)) c.if-not-branch.false c.in-ok-word.ensures
+    subst (λ (b : Bool). Hears R c.loop-turn.hearing c.word.new.self (Ok b)) c.if-not-branch.false c.in_ok-word.ensures
     in
     heard k ∙ ap (λ j. in_all R j c.loop-turn.hearing) more ∙ c.loop-turn.invariant
 

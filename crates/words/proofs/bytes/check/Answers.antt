@@ -9,7 +9,7 @@ loop-turn-preserved c =
     let bs = c.loop-turn.reader.rest.now in
     let after = c.word.new.self.rest.now in
     let all = length c.args.rest.now in
-    let read = a_word c.loop-turn.reader.length bs after c.in-Ok.word c.in-Ok.ensures.word c.if-is-none.ensures in
+    let read = a_word c.loop-turn.reader.length bs after c.in-Ok.word c.in-Ok.ensures.word c.if-is_none.ensures in
     let one_less : all - (c.loop-turn.turn + 1) ≡ all - c.loop-turn.turn - 1 = omega arith in (
       ap (λ m. first_bad m c.args.length after) one_less
           ∙ past_word (all - c.loop-turn.turn) c.args.length bs after (omega arith) read.0 read.1 read.2 ∙ c.loop-turn.invariant.0,
@@ -28,9 +28,9 @@ returns-in-Err c =
       ),
     )
 
-pub returns-then-is-none : goal.returns-then-is-none
-returns-then-is-none c =
+pub returns-then-is_none : goal.returns-then-is_none
+returns-then-is_none c =
     let bs = c.loop-turn.reader.rest.now in
     sym c.loop-turn.invariant.0
     ∙ at_end (length c.args.rest.now - c.loop-turn.turn) c.args.length bs
-    (no_word c.loop-turn.reader.length bs c.word.new.self.rest.now c.in-Ok.word c.in-Ok.ensures.word c.if-is-none.ensures)
+    (no_word c.loop-turn.reader.length bs c.word.new.self.rest.now c.in-Ok.word c.in-Ok.ensures.word c.if-is_none.ensures)

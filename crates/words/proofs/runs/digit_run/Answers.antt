@@ -4,8 +4,8 @@ use Rattle.words.specs.Bytes.{digit}
 use Rattle.scan.proofs.Fronts.{goes_on, stops, ends}
 use Rattle.words.proofs.runs.digit_run.Goals as goal
 
-pub returns-then-not-is-digit : goal.returns-then-not-is-digit
-returns-then-not-is-digit c =
+pub returns-then-not-is_digit : goal.returns-then-not-is_digit
+returns-then-not-is_digit c =
     let t : digit (get_or c.args.bytes.now c.loop-i.i 0) ≡ false = grind (arith, nat_tests) in
     record { is = omega (arith, c.loop-i.invariant, stops digit c.args.bytes.now c.loop-i.i c.loop-i-test.true t); within = omega arith }
 

@@ -3,7 +3,7 @@ use Rattle.words.specs.Words.{sign_at, after_sign}
 use Rattle.words.proofs.Fronts.{none_there}
 use Rattle.words.proofs.runs.signed.Goals as goal
 
-pub returns-then-is-empty : goal.returns-then-is-empty
-returns-then-is-empty c =
-    let e : c.args.bytes.now ≡ [] = none_there c.args.bytes.now c.if-is-empty.ensures in
+pub returns-then-is_empty : goal.returns-then-is_empty
+returns-then-is_empty c =
+    let e : c.args.bytes.now ≡ [] = none_there c.args.bytes.now c.if-is_empty.ensures in
     record { sign = rw e refl; rest = rw e refl }
