@@ -4,13 +4,14 @@ use Rattle.codes.specs.Program.{code}
 use Rattle.codes.specs.declared.program.ProgramCode.{ProgramCode}
 use Rattle.scan.specs.Numbers.{digits}
 use Rattle.scan.specs.Runs.{past}
-use Rattle.words.specs.Bytes.{digit}
+use Rattle.words.specs.Bytes.{blank, digit}
 use Rattle.words.specs.Words.{Spelled}
 use Rattle.words.specs.Checking.{first_bad}
 use Rattle.words.specs.Listing.{listed}
 use Rattle.words.specs.declared.word.Sign.{Sign}
 use Rattle.words.specs.declared.word.Sign.TheVariants.{Absent, Plus, Minus}
-use Rattle.orders.proofs.Spacing.{words_here, goes_on}
+use Rattle.orders.proofs.Spacing.{words_here, goes_on, words_from, bad_from}
+use Rattle.orders.proofs.Widening.{past_on}
 use Rattle.reply.specs.Texts.{padded, sign_of, code_text, x_text, feed_text}
 use Rattle.reply.proofs.Padding.{padded_digits, span_blank, past_digits, span_end, past_end}
 
@@ -60,6 +61,20 @@ module _ (k n : ℕ) (ds rest : List ℕ) (ws : List Spelled) (all : digits ds �
     good = goes_on k n 88 (45 ∷ (ds ++ 32 ∷ rest)) refl ∙ ap (first_bad k n) (past_digits ds rest all) ∙ on.good;
   }
 
+-- blanks in front change nothing
+abbrev blanks : ℕ → List ℕ → List ℕ
+blanks zero bs = bs
+blanks (suc j) bs = 32 ∷ blanks j bs
+
+blanks_first : (j k n : ℕ) (bs : List ℕ) (ws : List Spelled) → Reads (suc k) n bs ws → Reads (suc k) n (blanks j bs) ws
+blanks_first zero k n bs ws r = r
+blanks_first (suc j) k n bs ws r =
+    let on = blanks_first j k n bs ws r in
+    record {
+      words = ap (words_from k n) (past_on blank 32 (blanks j bs) refl) ∙ on.words;
+      good = ap (bad_from k n) (past_on blank 32 (blanks j bs) refl) ∙ on.good;
+    }
+
 nothing_left : (k n : ℕ) → Reads k n [] []
 nothing_left zero n = record { words = refl; good = refl }
 nothing_left (suc k) n = record { words = refl; good = refl }
@@ -84,7 +99,7 @@ feed_words n None = []
 feed_words n (Some f) = word 70 (n - length (padded 7 f)) Absent (padded 7 f) ∷ []
 
 feed_reads : (k n : ℕ) (f : Option ℕ) → Reads (suc k) n (feed_text f) (feed_words n f)
-feed_reads k n None = record { words = refl; good = refl }
+feed_reads k n None = blanks_first 8 k n [] [] (record { words = refl; good = refl })
 feed_reads k n (Some f) = f_word k n (padded 7 f) (padded_digits 7 f)
 
 abbrev pub x_words : ℕ → Option ℤ → List ℕ → List Spelled
@@ -92,10 +107,10 @@ x_words n None rest = []
 x_words n (Some x) rest = word 88 (n - length (sign_of x ∷ (padded 8 (nat_abs x) ++ 32 ∷ rest))) (sign_word x) (padded 8 (nat_abs x)) ∷ []
 
 x_reads : (k n : ℕ) (x : Option ℤ) (f : Option ℕ) → Reads (suc (suc k)) n (x_text x ++ 32 ∷ feed_text f) (x_words n x (feed_text f) ++ feed_words n f)
-x_reads k n None f = let r = feed_reads (suc k) n f in record { words = r.words; good = r.good }
-x_reads k n (Some (pos m)) f = plus_word (suc k) n (padded 8 m) (feed_text f) (feed_words n f) (padded_digits 8 m) (let r = feed_reads k n f in record { words = r.words; good = r.good })
+x_reads k n None f = blanks_first 11 (suc k) n (feed_text f) (feed_words n f) (feed_reads (suc k) n f)
+x_reads k n (Some (pos m)) f = plus_word (suc k) n (padded 8 m) (feed_text f) (feed_words n f) (padded_digits 8 m) (blanks_first 1 k n (feed_text f) (feed_words n f) (feed_reads k n f))
 x_reads k n (Some (negsuc m)) f =
-    minus_word (suc k) n (padded 8 (suc m)) (feed_text f) (feed_words n f) (padded_digits 8 (suc m)) (let r = feed_reads k n f in record { words = r.words; good = r.good })
+    minus_word (suc k) n (padded 8 (suc m)) (feed_text f) (feed_words n f) (padded_digits 8 (suc m)) (blanks_first 1 k n (feed_text f) (feed_words n f) (feed_reads k n f))
 
 abbrev pub code_words : ℕ → Option ProgramCode → List ℕ → List Spelled
 code_words n None rest = []
@@ -103,10 +118,10 @@ code_words n (Some c) rest = word 71 (n - length (padded 2 (code c) ++ 32 ∷ re
 
 code_reads : (k n : ℕ) (g : Option ProgramCode) (x : Option ℤ) (f : Option ℕ)
     → Reads (suc (suc (suc k))) n (code_text g ++ 32 ∷ (x_text x ++ 32 ∷ feed_text f)) (code_words n g (x_text x ++ 32 ∷ feed_text f) ++ (x_words n x (feed_text f) ++ feed_words n f))
-code_reads k n None x f = let r = x_reads (suc k) n x f in record { words = r.words; good = r.good }
+code_reads k n None x f = blanks_first 4 (suc (suc k)) n (x_text x ++ 32 ∷ feed_text f) (x_words n x (feed_text f) ++ feed_words n f) (x_reads (suc k) n x f)
 code_reads k n (Some c) x f =
     g_word (suc (suc k)) n (padded 2 (code c)) (x_text x ++ 32 ∷ feed_text f) (x_words n x (feed_text f) ++ feed_words n f) (padded_digits 2 (code c))
-    (let r = x_reads k n x f in record { words = r.words; good = r.good })
+    (blanks_first 1 (suc k) n (x_text x ++ 32 ∷ feed_text f) (x_words n x (feed_text f) ++ feed_words n f) (x_reads k n x f))
 
 pub line_reads : (k n m : ℕ) (g : Option ProgramCode) (x : Option ℤ) (f : Option ℕ)
     → Reads (suc (suc (suc (suc k)))) n (78 ∷ (padded 3 m ++ 32 ∷ (code_text g ++ 32 ∷ (x_text x ++ 32 ∷ feed_text f))))
@@ -114,4 +129,4 @@ pub line_reads : (k n m : ℕ) (g : Option ProgramCode) (x : Option ℤ) (f : Op
     ∷ (code_words n g (x_text x ++ 32 ∷ feed_text f) ++ (x_words n x (feed_text f) ++ feed_words n f)))
 line_reads k n m g x f =
     n_word (suc (suc (suc k))) n (padded 3 m) (code_text g ++ 32 ∷ (x_text x ++ 32 ∷ feed_text f)) _ (padded_digits 3 m)
-    (let r = code_reads k n g x f in record { words = r.words; good = r.good })
+    (blanks_first 1 (suc (suc k)) n (code_text g ++ 32 ∷ (x_text x ++ 32 ∷ feed_text f)) _ (code_reads k n g x f))

@@ -3,14 +3,14 @@ use Rattle.orders.specs.Hearings.{in_all, Hears}
 use Rattle.orders.specs.declared.heard.Heard.{Heard}
 use Rattle.program.proofs.storing.hear_into.Goals as goal
 
-pub returns-in-err-word : goal.returns-in-err-word
-returns-in-err-word c =
+pub returns-in_err-word : goal.returns-in_err-word
+returns-in_err-word c =
     let R = c.args.settings.now.resolution in
     let k = length c.args.rest.now - (c.loop-turn.turn + 1) in
     let more : suc k ≡ length c.args.rest.now - c.loop-turn.turn = omega arith in
-    let fault : c.from-residual.result ≡ Err c.in-err-word.field-0.0 = search rules in
+    let fault : c.from_residual.result ≡ Err c.in_err-word.field-0.0 = search rules in
     record {
-      said = fault ∙ sym (c.in-err-word.ensures k) ∙ ap (λ j. in_all R j c.loop-turn.hearing) more ∙ c.loop-turn.invariant.0;
+      said = fault ∙ sym (c.in_err-word.ensures k) ∙ ap (λ j. in_all R j c.loop-turn.hearing) more ∙ c.loop-turn.invariant.0;
       fields = search rules;
     }
 
@@ -20,7 +20,7 @@ loop-turn-preserved c =
     let k = length c.args.rest.now - (c.loop-turn.turn + 1) in
     let more : suc k ≡ length c.args.rest.now - c.loop-turn.turn = omega arith in
     let heard : Hears R c.loop-turn.hearing c.word.new.self (Ok true) =
-    subst (λ (b : Bool). Hears R c.loop-turn.hearing c.word.new.self (Ok b)) c.if-not-branch.false c.in-ok-word.ensures
+    subst (λ (b : Bool). Hears R c.loop-turn.hearing c.word.new.self (Ok b)) c.if-not-branch.false c.in_ok-word.ensures
     in
     (heard k ∙ ap (λ j. in_all R j c.loop-turn.hearing) more ∙ c.loop-turn.invariant.0, search rules)
 

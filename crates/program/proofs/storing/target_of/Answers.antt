@@ -6,8 +6,8 @@ use Rattle.program.proofs.storing.target_of.Goals as goal
 
 pub returns-in-Ok : goal.returns-in-Ok
 returns-in-Ok c =
-    aims c.args.settings.now.resolution c.args.length c.args.rest.now c.new-hearing.result c.word.new.self c.new-hearing.ensures c.in-Ok.some c.args.pointer.number c.line-or.result.number
-    c.in-Ok.ensures (subst (λ (h : Heard). NumberedOr h.line c.args.pointer.number c.line-or.result.number) c.heard.ensures c.line-or.ensures)
+    aims c.args.settings.now.resolution c.args.length c.args.rest.now c.new-hearing.result c.word.new.self c.new-hearing.ensures c.in-Ok.some c.args.pointer.number c.line_or.result.number
+    c.in-Ok.ensures (subst (λ (h : Heard). NumberedOr h.line c.args.pointer.number c.line_or.result.number) c.heard.ensures c.line_or.ensures)
 
 pub returns-in-Err : goal.returns-in-Err
 returns-in-Err c =

@@ -18,21 +18,21 @@ returns-in-Order c =
     let lines = c.args.lines.now in
     let p = c.args.pointer.number in
     let o = c.in-Order.order in
-    let is : Opened R bs (Ok (Whole o)) = subst (λ (s : Start). Opened R bs (Ok s)) c.in-Order.is c.in-ok-order.ensures in
+    let is : Opened R bs (Ok (Whole o)) = subst (λ (s : Start). Opened R bs (Ok s)) c.in-Order.is c.in_ok-order.ensures in
     let once = at_once c.args.busy p lines o is.1 in
     let whole = in_full R c.args.busy lines bs c.if-lines-ne-LINES.false ∙ ap (judged c.args.busy) is.0 ∙ once.passes in
     record { order = (whole, once.line); lines = once.same ∙ ap (λ (r : Result Order OrderFault). stored r p lines) (sym whole) }
 
-pub returns-in-ok-order-2 : goal.returns-in-ok-order-2
-returns-in-ok-order-2 c =
+pub returns-in_ok-order-in-Words : goal.returns-in_ok-order-in-Words
+returns-in_ok-order-in-Words c =
     let R = c.args.settings.now.resolution in
     let bs = c.args.line.now in
     let rest = c.in-Words.rest.now in
     let lines = c.args.lines.now in
-    let o = c.in-ok-order-2.order in
-    let is : Opened R bs (Ok (Words c.in-Words.rest)) = subst (λ (s : Start). Opened R bs (Ok s)) c.in-Words.is c.in-ok-order.ensures in
+    let o = c.in_ok-order-in-Words.order in
+    let is : Opened R bs (Ok (Words c.in-Words.rest)) = subst (λ (s : Start). Opened R bs (Ok s)) c.in-Words.is c.in_ok-order.ensures in
     let read = is.1 ∙ ap (λ (xs : List ℕ). and_then (heard_of R false (words (length bs) xs)) (λ h. Ok (order h))) (sym is.0) in
-    let all = by_words R c.args.busy lines bs c.if-lines-ne-LINES.false (length bs) rest o c.target-of-named.result.number c.args.pointer.number read
-    c.target-of-named.ensures (sym c.in-ok-order-2.ensures.order)
+    let all = by_words R c.args.busy lines bs c.if-lines-ne-LINES.false (length bs) rest o c.target_of-named.result.number c.args.pointer.number read
+    c.target_of-named.ensures (sym c.in_ok-order-in-Words.ensures.order)
     in
-    record { order = (all.0, c.line-about.ensures ∙ all.1); lines = c.in-ok-order-2.ensures.lines ∙ all.2 }
+    record { order = (all.0, c.line_about.ensures ∙ all.1); lines = c.in_ok-order-in-Words.ensures.lines ∙ all.2 }

@@ -8,17 +8,17 @@ pub returns : goal.returns
 returns c =
     let n = c.args.number in
     let fields = c.args.fields in
-    let g = c.code-text-g.result in
-    let x = c.x-text-x.result in
-    let f = c.feed-text-f.result in
+    let g = c.code_text-g.result in
+    let x = c.x_text-x.result in
+    let f = c.feed_text-f.result in
     record {
       text =
           ap (λ (d : ℕ). laid d c.digit-2.result c.digit-3.result g x f) c.digit.ensures
           ∙ ap (λ (d : ℕ). laid (digit_of n 100) d c.digit-3.result g x f) c.digit-2.ensures
           ∙ ap (λ (d : ℕ). laid (digit_of n 100) (digit_of n 10) d g x f) c.digit-3.ensures
-          ∙ ap (λ (bs : List ℕ). laid (digit_of n 100) (digit_of n 10) (digit_of n 1) bs x f) c.code-text-g.ensures
-          ∙ ap (λ (bs : List ℕ). laid (digit_of n 100) (digit_of n 10) (digit_of n 1) (code_text fields.code) bs f) c.x-text-x.ensures
-          ∙ ap (λ (bs : List ℕ). laid (digit_of n 100) (digit_of n 10) (digit_of n 1) (code_text fields.code) (x_text fields.x) bs) c.feed-text-f.ensures
+          ∙ ap (λ (bs : List ℕ). laid (digit_of n 100) (digit_of n 10) (digit_of n 1) bs x f) c.code_text-g.ensures
+          ∙ ap (λ (bs : List ℕ). laid (digit_of n 100) (digit_of n 10) (digit_of n 1) (code_text fields.code) bs f) c.x_text-x.ensures
+          ∙ ap (λ (bs : List ℕ). laid (digit_of n 100) (digit_of n 10) (digit_of n 1) (code_text fields.code) (x_text fields.x) bs) c.feed_text-f.ensures
           ∙ assembled n fields.code fields.x fields.feed;
       again = round_trip n fields;
     }
