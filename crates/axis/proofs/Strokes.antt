@@ -1,11 +1,9 @@
 -- What rows of pulses come to.
-use Rattle.std.proofs.Common.{◌≡◌, ℕ, ◌<◌, ◌≤◌, Bool, true, false, cond, ◌&&◌, ℤ, pos, ◌+ℤ◌, ◌-ℤ◌, ◌*ℤ◌, ◌≤ℤ◌, ap, ◌∙◌, arith}
-use lib.Signed.{le_z}
-use Rattle.std.specs.Int.{int_min}
+use Rattle.std.proofs.Common.{◌≡◌, ℕ, ◌<◌, Bool, true, false, ℤ, pos, ◌+ℤ◌, ◌*ℤ◌, ◌≤ℤ◌, ap, ◌∙◌, arith}
 use Rattle.std.proofs.lemmas.Int.{ints}
 use Rattle.axis.specs.Steps.{step, opposite}
-use Rattle.axis.specs.Pulses.{takes, within}
-use Rattle.axis.specs.Stands.{Stand, moved, gap, reach, along, taken}
+use Rattle.axis.specs.Pulses.{takes}
+use Rattle.axis.specs.Stands.{Stand, moved, reach, along, taken}
 use Rattle.axis.specs.declared.direction.Direction.{Direction}
 use Rattle.axis.specs.declared.direction.Direction.TheVariants.{Clockwise, Counterclockwise}
 

@@ -1,5 +1,5 @@
 -- The resolutions that there are, and the numbers that follow from one.
-use Rattle.std.specs.Prelude.{◌≡◌, ℕ, ◌*◌, Bool, true, cond, ◌||◌, ◌==◌}
+use Rattle.std.specs.Prelude.{◌≡◌, ℕ, ◌*◌, true, cond, ◌||◌, ◌==◌}
 
 abbrev pub Resolution : ℕ → Type 0
 Resolution r = (r == 1 || (r == 2 || (r == 5 || (r == 10 || r == 125)))) ≡ true

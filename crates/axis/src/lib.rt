@@ -1,4 +1,6 @@
 // What an axis is, and what can be said of every axis.
+#![tactic(auto)]
+
 pub mod direction;
 pub mod display;
 pub mod interface;

@@ -1,4 +1,6 @@
 // Runs a bench script from standard input on the axis that it names, and prints what each row did.
+#![tactic(auto)]
+
 mod answer;
 mod desk;
 mod session;

@@ -1,4 +1,6 @@
 // Settles the slip of a line that was taken, once.
+#![tactic(auto)]
+
 ghost use Rattle.std.specs.Prelude.{◌≡◌, false, length};
 ghost use Rattle.clerk.specs.Tellings.{told, written};
 

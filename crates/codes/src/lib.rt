@@ -1,3 +1,5 @@
 // The codes of program lines and of host lines.
+#![tactic(auto)]
+
 pub mod host;
 pub mod program;

@@ -1,4 +1,6 @@
 // Layers over any axis.
+#![tactic(auto)]
+
 pub mod fence;
 pub mod reversed;
 pub mod span;

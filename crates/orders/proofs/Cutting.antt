@@ -1,5 +1,5 @@
 -- A line cut behind what was read of it reads the same so far.
-use Rattle.std.proofs.Common.{◌≡◌, ℕ, zero, suc, ◌+◌, ◌-◌, Bool, true, false, cond, ◌||◌, eqb, List, [], ◌∷◌, get_or, take, drop, sym, refl, ap, ◌∙◌, arith, drop-drop}
+use Rattle.std.proofs.Common.{◌≡◌, ℕ, zero, suc, ◌+◌, Bool, true, false, cond, ◌||◌, eqb, List, [], ◌∷◌, get_or, take, drop, sym, refl, ap, ◌∙◌, arith, drop-drop}
 use Rattle.std.proofs.lemmas.List.{drop-take}
 use Rattle.scan.specs.Runs.{run, past}
 use Rattle.words.specs.Bytes.{blank, digit}

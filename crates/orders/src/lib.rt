@@ -1,4 +1,6 @@
 // Host lines as orders: from words to the one thing that a line asks for, or what is wrong with it.
+#![tactic(auto)]
+
 pub mod cases;
 pub mod fault;
 mod giving;

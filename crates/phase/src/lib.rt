@@ -1,2 +1,4 @@
 // The phase axis.
+#![tactic(auto)]
+
 pub mod drive;

@@ -1,3 +1,5 @@
 // The pin axis.
+#![tactic(auto)]
+
 pub mod drive;
 pub mod example;

@@ -1,7 +1,7 @@
 -- How far a ramp climbs. V is the move's speed, L the low speed, d twice the acceleration, z the lift.
-use Rattle.std.proofs.Common.{◌≡◌, ℕ, ◌+◌, ◌-◌, ◌*◌, ◌/◌, ◌^◌, ◌<◌, ◌≤◌, min, Bool, true, false, cond, eqb, ltb, ◌⊎◌, sym, refl, ap, inl, inr, le_trans, mul_comm, div-lt_iff_lt-mul, add-mul, mul-le-mul, le-div_iff_mul-le, arith, ltb-true, lt-ltb}
+use Rattle.std.proofs.Common.{◌≡◌, ℕ, ◌+◌, ◌-◌, ◌*◌, ◌/◌, ◌^◌, ◌<◌, ◌≤◌, min, Bool, true, false, cond, eqb, ltb, ◌⊎◌, refl, ap, inl, inr, le_trans, mul_comm, div-lt_iff_lt-mul, add-mul, mul-le-mul, le-div_iff_mul-le, arith, ltb-true, lt-ltb}
 use Rattle.std.proofs.lemmas.Bool.Decides.{nat_tests, eqb_tells}
-use Rattle.ramp.specs.Rates.{lift, reached, rate_at, ceiling_level, top_rate, LeastAtTop}
+use Rattle.ramp.specs.Rates.{lift, reached, rate_at, ceiling_level, LeastAtTop}
 use Rattle.ramp.specs.Roots.{root}
 use Rattle.ramp.specs.declared.mode.SpeedMode.{SpeedMode}
 use Rattle.ramp.specs.declared.mode.SpeedMode.TheVariants.{Low, High}

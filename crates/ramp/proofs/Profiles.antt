@@ -1,5 +1,5 @@
 -- The levels of whole moves.
-use Rattle.std.proofs.Common.{◌≡◌, ℕ, zero, suc, ◌+◌, ◌-◌, ◌<◌, ◌≤◌, min, List, [], ◌∷◌, length, sym, refl, ap, ◌∙◌, arith}
+use Rattle.std.proofs.Common.{◌≡◌, ℕ, zero, suc, ◌-◌, ◌<◌, ◌≤◌, ◌∷◌, length, sym, refl, ap, ◌∙◌, arith}
 use Rattle.ramp.specs.Levels.{going, next_level, going_on, to_come, fading, Smooth, AllUpTo, FromRestToRest}
 use Rattle.ramp.specs.declared.motor.Motor.{Motor}
 use Rattle.ramp.specs.declared.motor.Motor.TheVariants.{AtRest, Running}

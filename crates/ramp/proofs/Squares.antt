@@ -1,5 +1,5 @@
 -- Squares and roots.
-use Rattle.std.proofs.Common.{◌≡◌, ℕ, zero, suc, ◌+◌, ◌-◌, ◌*◌, ◌/◌, ◌^◌, ◌<◌, ◌≤◌, Bool, true, false, cond, ◌⊎◌, sym, refl, inl, inr, mul_assoc, mul_comm, add-mul, mul-le-mul, le_antisymm, mul-add, arith}
+use Rattle.std.proofs.Common.{◌≡◌, ℕ, zero, suc, ◌+◌, ◌*◌, ◌/◌, ◌^◌, ◌<◌, ◌≤◌, inl, inr, mul_assoc, mul_comm, add-mul, mul-le-mul, le_antisymm, mul-add, arith}
 use Rattle.std.proofs.lemmas.Bool.Decides.{nat_tests, leb_tells}
 use Rattle.ramp.specs.Roots.{root, onward}
 

@@ -1,9 +1,9 @@
 -- The laws of ramps, and the worked cases.
-use Rattle.std.proofs.Common.{◌≡◌, ℕ, suc, ◌+◌, ◌*◌, ◌<◌, ◌≤◌, min, Bool, true, false, cond, ltb, leb, List, [], ◌∷◌, sym, refl, ap, ◌∙◌, le_refl, mul-le-mul, arith}
+use Rattle.std.proofs.Common.{◌≡◌, ℕ, suc, ◌+◌, ◌*◌, ◌≤◌, min, Bool, true, false, cond, ltb, List, ◌∷◌, sym, refl, ap, ◌∙◌, le_refl, mul-le-mul, arith}
 use Rattle.std.proofs.lemmas.Bool.Decides.{nat_tests}
 use Rattle.ramp.specs.Roots.{root}
 use Rattle.ramp.specs.Rates.{rate_at, reached, lift, in_range}
-use Rattle.ramp.specs.Levels.{going, going_on, to_come}
+use Rattle.ramp.specs.Levels.{going, going_on}
 use Rattle.ramp.specs.Laws.{RateLaws, LevelLaws, WorkedCases}
 use Rattle.ramp.specs.declared.mode.SpeedMode.{SpeedMode}
 use Rattle.ramp.specs.declared.mode.SpeedMode.TheVariants.{Low, High}

@@ -1,9 +1,9 @@
 -- What holds of every ramp, and cases worked by hand.
-use Rattle.std.specs.Prelude.{◌≡◌, ℕ, ◌+◌, ◌<◌, ◌≤◌, true, List, [], ◌∷◌, length}
+use Rattle.std.specs.Prelude.{◌≡◌, ℕ, ◌+◌, ◌<◌, ◌≤◌, true, [], ◌∷◌, length}
 use Rattle.ramp.specs.Rates.{rate_at, ceiling_level, ticks, in_range}
 use Rattle.ramp.specs.Levels.{going, to_come, fading}
 use Rattle.ramp.specs.declared.mode.SpeedMode.{SpeedMode}
-use Rattle.ramp.specs.declared.mode.SpeedMode.TheVariants.{Low, High}
+use Rattle.ramp.specs.declared.mode.SpeedMode.TheVariants.{High}
 use Rattle.ramp.specs.declared.motor.Motor.TheVariants.{AtRest}
 
 pub record RateLaws : Type 0 where

@@ -1,5 +1,5 @@
 -- The rate of a pulse by its level. L is the low speed, A the acceleration, V the move's speed, s the level.
-use Rattle.std.specs.Prelude.{◌≡◌, ℕ, ◌+◌, ◌-◌, ◌*◌, ◌/◌, ◌≤◌, min, Bool, true, false, cond, ◌&&◌, ◌==◌, nat_le, nat_lt}
+use Rattle.std.specs.Prelude.{◌≡◌, ℕ, ◌+◌, ◌-◌, ◌*◌, ◌/◌, ◌≤◌, min, Bool, true, cond, ◌&&◌, ◌==◌, nat_le, nat_lt}
 use Rattle.ramp.specs.Roots.{root}
 use Rattle.ramp.specs.declared.mode.SpeedMode.{SpeedMode}
 use Rattle.ramp.specs.declared.mode.SpeedMode.TheVariants.{Low, High}

@@ -1,4 +1,6 @@
 // The level, rate and wait of every pulse of a move.
+#![tactic(auto)]
+
 pub mod cases;
 mod climb;
 pub mod course;

@@ -1,4 +1,6 @@
 // Answers to host lines, as bytes, and the slip that each line is taken for.
+#![tactic(auto)]
+
 pub mod answer;
 mod digits;
 pub mod line;

@@ -1,5 +1,5 @@
 -- How a ring's contents change by a write behind them and by a step of their start.
-use Rattle.std.proofs.Common.{◌≡◌, ℕ, suc, ◌+◌, ◌-◌, ◌<◌, ◌≤◌, ◌⊎◌, List, [], ◌∷◌, ◌++◌, length, get_or, take, drop, set, sym, refl, ap, ◌∙◌, inl, inr, arith}
+use Rattle.std.proofs.Common.{◌≡◌, ℕ, suc, ◌+◌, ◌-◌, ◌<◌, ◌≤◌, ◌⊎◌, List, [], ◌∷◌, ◌++◌, length, get_or, take, drop, set, sym, ap, ◌∙◌, inl, inr, arith}
 use Rattle.std.proofs.lemmas.List.{length-set, length-drop, length-append, drop-append-le, take-append-le, drop-set-add, drop-set-lt, take_more_set, set-append_right, drop_more, get_or_append_left, drop_at}
 use Rattle.ring.specs.Contents.{contents}
 

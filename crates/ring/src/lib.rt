@@ -1,4 +1,6 @@
 // A ring over memory that the host lends: first in, first out.
+#![tactic(auto)]
+
 ghost use Rattle.std.specs.Prelude.{◌<◌, ◌≤◌, length};
 
 mod queue;

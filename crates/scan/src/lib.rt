@@ -1,4 +1,6 @@
 // Text cut into words and numbers.
+#![tactic(auto)]
+
 pub mod cases;
 pub mod field;
 pub mod number;

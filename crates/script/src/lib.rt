@@ -1,4 +1,6 @@
 // The bench script: rows of text, and what each asks for.
+#![tactic(auto)]
+
 mod host;
 pub mod mistake;
 pub mod row;

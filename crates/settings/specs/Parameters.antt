@@ -1,5 +1,5 @@
 -- The table of parameters. R is the axis's resolution, S its top speed.
-use Rattle.std.specs.Prelude.{ℕ, Bool, true, false, cond, ◌&&◌, ℤ, pos, negsuc, ◌==◌, int_le}
+use Rattle.std.specs.Prelude.{ℕ, Bool, true, false, ◌&&◌, ℤ, pos, negsuc, ◌==◌, int_le}
 use Rattle.axis.specs.Resolutions.{top, speed_start, acceleration_start, low_speed_start, step_start}
 use Rattle.settings.specs.declared.parameter.Parameter.{Parameter}
 use Rattle.settings.specs.declared.parameter.Parameter.TheVariants.{RunFormat, HomeDirection, JogSpeed, Acceleration, LowSpeed, StepLength, HomeSpeed, HomeOffset, ClockwiseLimit, CounterclockwiseLimit, StartLine, ChangeoverTime, SwitchInputs, FurtherRuns, TransferCode, Backlash, AutoReverse}

@@ -1,7 +1,7 @@
 -- The value of each parameter, as a number.
 use Rattle.std.specs.Prelude.{◌≡◌, ℕ, Bool, cond, ℤ, pos, negsuc, int_lt}
 use Rattle.axis.specs.Steps.{step}
-use Rattle.settings.specs.Parameters.{row, fits, same}
+use Rattle.settings.specs.Parameters.{row, same}
 use Rattle.settings.specs.declared.parameter.Parameter.{Parameter}
 use Rattle.settings.specs.declared.parameter.Parameter.TheVariants.{RunFormat, HomeDirection, JogSpeed, Acceleration, LowSpeed, StepLength, HomeSpeed, HomeOffset, ClockwiseLimit, CounterclockwiseLimit, StartLine, ChangeoverTime, SwitchInputs, FurtherRuns, TransferCode, Backlash, AutoReverse}
 use Rattle.settings.specs.declared.parameter.RunFormat.{RunFormat as Format}

@@ -1,4 +1,6 @@
 // The parameters of an indexer: their codes, ranges, starting values, and what each is set to.
+#![tactic(auto)]
+
 pub mod codes;
 mod numbers;
 pub mod parameter;

@@ -1,3 +1,5 @@
+#![tactic(auto)]
+
 // Examples worked by hand; in a crate of their own, since a crate with tests is proved twice.
 #[cfg(test)]
 mod drives;

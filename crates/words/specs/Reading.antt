@@ -1,8 +1,8 @@
 -- What reading the next word comes to.
-use Rattle.std.specs.Prelude.{◌≡◌, ℕ, ◌-◌, ◌<◌, true, false, List, [], ◌∷◌, length, drop, Some, None, Ok, Err, Option, Result, slice_index}
+use Rattle.std.specs.Prelude.{◌≡◌, ℕ, ◌-◌, ◌<◌, true, false, List, [], length, drop, Some, None, Ok, Err, Option, Result, slice_index}
 use Rattle.words.specs.Bytes.{blank, letter}
 use Rattle.scan.specs.Runs.{past}
-use Rattle.words.specs.Words.{Spelled, spelled, word_of, behind}
+use Rattle.words.specs.Words.{spelled, word_of, behind}
 use Rattle.words.specs.declared.word.Word.{Word}
 use Rattle.words.specs.declared.word.ByteFault.{ByteFault}
 use Rattle.words.specs.declared.word.ByteFault.TheVariants.{OpensNone}

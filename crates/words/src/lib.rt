@@ -1,4 +1,6 @@
 // Host lines as words: from bytes to the words that they spell, or the first byte that is wrong.
+#![tactic(auto)]
+
 pub mod bytes;
 pub mod kind;
 pub mod reader;

@@ -1,4 +1,4 @@
-use Rattle.std.proofs.Common.{◌+◌, ◌*◌, ◌^◌, ◌<◌, ◌≤◌, ◌∙◌, arith, rules}
+use Rattle.std.proofs.Common.{◌≤◌, ◌∙◌, arith, rules}
 use Rattle.ramp.proofs.Climbs.{high_rate, high_some, high_fits}
 use Rattle.ramp.proofs.climb.rate.Goals as goal
 

@@ -1,5 +1,4 @@
-use Rattle.std.proofs.Common.{◌≡◌, [], sym, refl, ap}
-use Rattle.words.specs.Words.{sign_at, after_sign}
+use Rattle.std.proofs.Common.{◌≡◌, [], refl}
 use Rattle.words.proofs.Fronts.{none_there}
 use Rattle.words.proofs.runs.signed.Goals as goal
 

@@ -1,4 +1,4 @@
-use Rattle.std.proofs.Common.{◌≡◌, ◌+◌, ◌-◌, ◌*◌, ◌<◌, ◌≤◌, length, get_or, drop, sym, ap, ◌∙◌, arith, rules}
+use Rattle.std.proofs.Common.{◌+◌, ◌-◌, ◌*◌, ◌≤◌, length, drop, sym, ap, ◌∙◌, arith, rules}
 use Rattle.scan.specs.Numbers.{read_on, value}
 use Rattle.scan.proofs.Digits.{value_more, value_end}
 use Rattle.scan.proofs.Tens.{under, more}
