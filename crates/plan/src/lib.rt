@@ -1,4 +1,6 @@
 // The legs of a move, and whether they may be made.
+#![tactic(auto)]
+
 pub mod fault;
 pub mod leg;
 pub mod legs;

@@ -68,24 +68,30 @@ fn any_past_limit(legs: Legs, counter: i32, clockwise: i32, counterclockwise: i3
     ensures { result ≡ any_leg (past_limit clockwise counterclockwise) counter (listed legs) }
 {
     let start = counter as i64;
+    if leg_past_limit(start, Some(legs.first), clockwise, counterclockwise) {
+        return true;
+    }
     let turn = end_of(start, Some(legs.first));
+    if leg_past_limit(turn, legs.second, clockwise, counterclockwise) {
+        return true;
+    }
     let goal = end_of(turn, legs.second);
-    let first = leg_past_limit(start, Some(legs.first), clockwise, counterclockwise);
-    let second = leg_past_limit(turn, legs.second, clockwise, counterclockwise);
-    let third = leg_past_limit(goal, legs.third, clockwise, counterclockwise);
-    first || second || third
+    leg_past_limit(goal, legs.third, clockwise, counterclockwise)
 }
 
 fn any_past_end(legs: Legs, counter: i32) -> bool
     ensures { result ≡ any_leg past_end counter (listed legs) }
 {
     let start = counter as i64;
+    if leg_past_end(start, Some(legs.first)) {
+        return true;
+    }
     let turn = end_of(start, Some(legs.first));
+    if leg_past_end(turn, legs.second) {
+        return true;
+    }
     let goal = end_of(turn, legs.second);
-    let first = leg_past_end(start, Some(legs.first));
-    let second = leg_past_end(turn, legs.second);
-    let third = leg_past_end(goal, legs.third);
-    first || second || third
+    leg_past_end(goal, legs.third)
 }
 
 // Before the first pulse: no leg may end past an enabled limit of its way, nor past the counter's end.

@@ -4,7 +4,7 @@
 #[cfg(test)]
 mod drives;
 #[cfg(test)]
-mod layers;
+mod layered;
 #[cfg(test)]
 mod lines;
 #[cfg(test)]
