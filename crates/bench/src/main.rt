@@ -4,6 +4,8 @@
 mod answer;
 mod desk;
 mod session;
+#[cfg(test)]
+mod worksheet;
 
 use anyhow::anyhow;
 use axis::direction::Direction;
