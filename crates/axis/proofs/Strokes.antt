@@ -32,8 +32,8 @@ there_and_back Clockwise z k = omega (arith, ints)
 there_and_back Counterclockwise z k = omega (arith, ints)
 
 -- s is where it stood, t where it stood after the way out, u after the way back
-pub back_home : (way back : Direction) (n k b : ℕ) (s t u : Stand) → back ≡ opposite way → s.low ≤ℤ s.place → s.place ≤ℤ s.high → pos k ≡ reach way n s
-    → t ≡ along way k s → pos b ≡ reach back k t → u ≡ along back b t → u ≡ s
-back_home way back n k b s t u turned least most out at counted there =
+pub back_home : (way back : Direction) (n k b : ℕ) (s t u : Stand) → s.low ≤ℤ s.place → s.place ≤ℤ s.high → pos k ≡ reach way n s
+    → t ≡ along way k s → pos b ≡ reach back k t → u ≡ along back b t → back ≡ opposite way → u ≡ s
+back_home way back n k b s t u least most out at counted there turned =
     let all : b ≡ k = all_back s.powered way s.low s.high s.place n k b least most out (rw (at, turned) at counted) in
     there ∙ rw (at, all, turned) (ap (moved s) (there_and_back way s.place k))
