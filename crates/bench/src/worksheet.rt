@@ -89,7 +89,7 @@ line *
 hex 4E 31 20 48 31 33
 ";
 
-// By the second reader of lines and the second board, in Python.
+// By the second reader of lines and the second board, in Python; which row is a mistake is counted by hand.
 const ANSWERS: &str = "\
 set L11 to 5000
 set L09 to 2500

@@ -1,22 +1,19 @@
 -- Whether any leg, one after the other, is such.
 use Rattle.std.proofs.Common.{◌≡◌, Bool, true, false, ◌||◌, ℤ, Some, None, Option, refl, ap, ◌∙◌, rules, arith, pos, neg_ℤ, ◌≤ℤ◌}
+use Rattle.std.proofs.Math.Bool.{or-false}
 use Rattle.std.proofs.lemmas.Int.{ints}
 use Rattle.plan.specs.Legs.{listed}
 use Rattle.plan.specs.Limits.{any_leg, ended, at_leg}
 use Rattle.plan.specs.declared.leg.Leg.{Leg}
 use Rattle.plan.specs.declared.route.Legs.{Legs}
 
-alone : (a : Bool) → (a || false) ≡ a
-alone true = refl
-alone false = refl
-
 by_leg : (test : ℤ → ℤ → Bool) (c : ℤ) (l : Leg) (m n : Option Leg)
     → any_leg test c (listed (record { first = l; second = m; third = n }))
     ≡ (at_leg test c (Some l) || (at_leg test (ended c (Some l)) m || at_leg test (ended (ended c (Some l)) m) n))
 by_leg test c l None None = refl
 by_leg test c l (Some m) None = refl
-by_leg test c l None (Some n) = ap (λ b. at_leg test c (Some l) || b) (alone (at_leg test (ended c (Some l)) (Some n)))
-by_leg test c l (Some m) (Some n) = ap (λ b. at_leg test c (Some l) || (at_leg test (ended c (Some l)) (Some m) || b)) (alone (at_leg test (ended (ended c (Some l)) (Some m)) (Some n)))
+by_leg test c l None (Some n) = ap (λ b. at_leg test c (Some l) || b) (or-false (at_leg test (ended c (Some l)) (Some n)))
+by_leg test c l (Some m) (Some n) = ap (λ b. at_leg test c (Some l) || (at_leg test (ended c (Some l)) (Some m) || b)) (or-false (at_leg test (ended (ended c (Some l)) (Some m)) (Some n)))
 
 ends : (a b : Bool) → a ≡ true → (a || b) ≡ true
 ends true b e = refl
@@ -32,9 +29,6 @@ module _ (test : ℤ → ℤ → Bool) (c : ℤ) (l : Legs) where
 
   abbrev third : Bool
   third = at_leg test (ended (ended c (Some l.first)) l.second) l.third
-
-  pub at_first : at_leg test c (Some l.first) ≡ true → any_leg test c (listed l) ≡ true
-  at_first e = by_leg test c l.first l.second l.third ∙ ends (at_leg test c (Some l.first)) (second || third) e
 
   pub at_second : at_leg test c (Some l.first) ≡ false → at_leg test (ended c (Some l.first)) l.second ≡ true → any_leg test c (listed l) ≡ true
   at_second e f = by_leg test c l.first l.second l.third ∙ skips (at_leg test c (Some l.first)) (second || third) e ∙ ends second third f

@@ -6,6 +6,8 @@ mod drives;
 #[cfg(test)]
 mod layered;
 #[cfg(test)]
+mod legs;
+#[cfg(test)]
 mod lines;
 #[cfg(test)]
 mod memory;

@@ -1,0 +1,75 @@
+// The legs of an index and where they may end, worked by hand.
+use plan::fault::MoveFault;
+use plan::legs::index;
+use plan::limits::check;
+use plan::route::Legs;
+use std::test::Fail;
+
+// X, the counter, absolute, backlash, way back, and the legs; 0 stands for no leg.
+const INDEXES: [(i32, i32, bool, i32, bool, [i64; 3]); 7] = [
+    (100, 0, false, 5, true, [105, -5, -100]),
+    (100, 30, true, 0, false, [70, 0, 0]),
+    (-100, 0, false, -5, false, [-105, 5, 0]),
+    (-100, 0, false, 5, true, [-100, 0, 100]),
+    (7, 7, true, 5, true, [0, 0, 0]),
+    (0, 9, false, 5, true, [0, 0, 0]),
+    (
+        2_147_483_647,
+        -2_147_483_648,
+        true,
+        1,
+        false,
+        [4_294_967_296, -1, 0],
+    ),
+];
+
+fn pulses(legs: Option<Legs>) -> [i64; 3] {
+    let Some(legs) = legs else {
+        return [0, 0, 0];
+    };
+    let second = match legs.second {
+        Some(leg) => leg.pulses,
+        None => 0,
+    };
+    let third = match legs.third {
+        Some(leg) => leg.pulses,
+        None => 0,
+    };
+    [legs.first.pulses, second, third]
+}
+
+#[test]
+fn legs_of_an_index(rt: HostRuntime) {
+    for (x, counter, absolute, backlash, reverse, want) in INDEXES {
+        let legs = pulses(index(x, counter, absolute, backlash, reverse));
+        for i in 0..3 {
+            assert_eq!(rt; legs[i], want[i]);
+        }
+    }
+}
+
+// Distance, the counter, backlash, both limits, and the refusal. A limit of 0 is none.
+const CHECKS: [(i32, i32, i32, i32, i32, Option<MoveFault>); 8] = [
+    (100, 0, 0, 100, 0, None),
+    (101, 0, 0, 100, 0, Some(MoveFault::PastLimit)),
+    (100, 0, 1, 100, 0, Some(MoveFault::PastLimit)),
+    (-100, 0, 0, 50, -100, None),
+    (-101, 0, 0, 50, -100, Some(MoveFault::PastLimit)),
+    (1, 999_999_998, 0, 0, 0, None),
+    (1, 999_999_999, 0, 0, 0, Some(MoveFault::PastEnd)),
+    (1, 999_999_999, 0, 5, 0, Some(MoveFault::PastLimit)),
+];
+
+#[test]
+fn where_legs_may_end(rt: HostRuntime) -> Result<(), Fail> {
+    for (distance, counter, backlash, clockwise, counterclockwise, want) in CHECKS {
+        let Some(legs) = index(distance, counter, false, backlash, false) else {
+            return Err(Fail::new("no legs"));
+        };
+        match check(legs, counter, clockwise, counterclockwise) {
+            Ok(()) => assert!(rt; want.is_none()),
+            Err(fault) => assert!(rt; matches!(want, Some(w) if w == fault)),
+        }
+    }
+    Ok(())
+}
