@@ -2,6 +2,8 @@
 ghost use Rattle.std.specs.Prelude.{◌≡◌};
 ghost use Rattle.axis.specs.declared.display.Shown.{Shown};
 
+use std::fmt;
+
 #[derive(Clone, Copy, PartialEq, Eq, Debug)]
 pub enum Shown {
     // How many pulses each way, as two counts that wrap.
@@ -13,6 +15,18 @@ pub enum Shown {
     Coils {
         bits: u8,
     },
+}
+
+impl fmt::Display for Shown {
+    fn fmt<W: fmt::Write>(&self, f: &mut fmt::Formatter<W>) -> fmt::Result {
+        match *self {
+            Shown::Counts {
+                clockwise,
+                counterclockwise,
+            } => write!(f, "counts {clockwise} {counterclockwise}"),
+            Shown::Coils { bits } => write!(f, "coils {bits}"),
+        }
+    }
 }
 
 pub trait Drive {

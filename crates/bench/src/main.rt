@@ -9,6 +9,7 @@ mod worksheet;
 
 use anyhow::anyhow;
 use axis::direction::Direction;
+use layers::allowance::Allowance;
 use layers::fence::Fence;
 use layers::reversed::Reversed;
 use phase::drive::PhaseAxis;
@@ -47,7 +48,10 @@ const HELP: &str = "bench: runs a bench script from standard input and prints wh
 A row that cannot be read is answered with its number and what is wrong, and the run goes on.";
 
 // The widest fence, where the script names no axis.
-const WIDE: u32 = 1_000_000_000;
+const WIDE: Allowance = Allowance {
+    down: 1_000_000_000,
+    up: 1_000_000_000,
+};
 
 fn main(rt: HostRuntime) -> anyhow::Result<()> {
     run(&rt)
@@ -86,7 +90,7 @@ fn begin<I: Read + Drop, O: Write>(
         }
     }
     let Some(Ok(Row::Axis(pile))) = first else {
-        return serve(heap, standard(WIDE, WIDE), first, source, out);
+        return serve(heap, standard(WIDE), first, source, out);
     };
     let next = source.next()?;
     match pile {
@@ -94,30 +98,12 @@ fn begin<I: Read + Drop, O: Write>(
         Pile::Phase => serve(heap, PhaseAxis::new(), next, source, out),
         Pile::ReversedPin => serve(heap, Reversed::new(PinAxis::new()), next, source, out),
         Pile::ReversedPhase => serve(heap, Reversed::new(PhaseAxis::new()), next, source, out),
-        Pile::FencePin(far) => serve(
-            heap,
-            Fence::new(PinAxis::new(), far.down, far.up),
-            next,
-            source,
-            out,
-        ),
-        Pile::FenceReversedPhase(far) => serve(
-            heap,
-            fenced_phase(far.down, far.up),
-            next,
-            source,
-            out,
-        ),
+        Pile::FencePin(far) => serve(heap, Fence::new(PinAxis::new(), far), next, source, out),
+        Pile::FenceReversedPhase(far) => serve(heap, fenced_phase(far), next, source, out),
         Pile::FenceFencePin { outer, inner } => {
-            let fenced = Fence::new(PinAxis::new(), inner.down, inner.up);
-            serve(
-                heap,
-                Fence::new(fenced, outer.down, outer.up),
-                next,
-                source,
-                out,
-            )
+            let fenced = Fence::new(PinAxis::new(), inner);
+            serve(heap, Fence::new(fenced, outer), next, source, out)
         }
-        Pile::Standard(far) => serve(heap, standard(far.down, far.up), next, source, out),
+        Pile::Standard(far) => serve(heap, standard(far), next, source, out),
     }
 }
