@@ -174,13 +174,9 @@ fn ramp_of(pace: Pace) -> Option<Ramp> {
 
 // Each pulse of a move: number, level, rate, wait, and ticks since the first; then the move as a whole.
 fn show_move<O: Write>(ramp: Ramp, count: u32, out: &mut O) -> io::Result<()> {
-    let mut course = Course::new(ramp, count);
     let mut ticks = 0u64;
     let mut highest = 0;
-    for number in 1..=count {
-        let Some(pulse) = course.next() else {
-            break;
-        };
+    for (number, pulse) in (1..=count).zip(Course::new(ramp, count)) {
         let rate = pulse.rate.per_second();
         writeln!(
             out,
