@@ -1,4 +1,3 @@
 pub mod Digits
 pub mod Few
-pub mod Fronts
 pub mod Tens

@@ -1,10 +1,10 @@
 -- Runs of bytes of one kind at the front of a list.
-use Rattle.std.specs.Prelude.{ℕ, ◌+◌, Bool, cond, List, [], ◌∷◌, take, drop}
+use Rattle.std.specs.Prelude.{ℕ, Bool, List, take, drop}
+use Rattle.std.specs.List.{prefix_len}
 
 -- how many bytes of a kind stand at the front
 abbrev pub run : (ℕ → Bool) → List ℕ → ℕ
-run kind [] = 0
-run kind (b ∷ bs) = cond (kind b) (1 + run kind bs) 0
+run kind bs = prefix_len kind bs
 
 -- those bytes, and what stands behind them
 abbrev pub span : (ℕ → Bool) → List ℕ → List ℕ

@@ -33,9 +33,10 @@ impl Field {
         ensures { result ≡ value (kept self digits.now) }
     {
         let from = digits.len().saturating_sub(self.width());
+        let last = &digits[from..];
         let mut n = 0u32;
-        for i in from..digits.len() {
-            n = n * 10 + digits[i].saturating_sub(b'0') as u32;
+        for digit in last {
+            n = n * 10 + digit.saturating_sub(b'0') as u32;
         }
         n
     }

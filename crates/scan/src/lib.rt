@@ -4,6 +4,7 @@
 pub mod cases;
 pub mod field;
 pub mod number;
+pub mod runs;
 #[cfg(test)]
 mod tests;
 pub mod words;

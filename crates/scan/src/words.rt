@@ -1,26 +1,30 @@
 // A row cut at its blanks.
-ghost use Rattle.std.specs.Prelude.{◌≡◌, ◌^◌, ◌<◌, ◌≤◌, true, length};
-ghost use Rattle.scan.specs.Cuts.{blank_is, first_word, after_word};
-ghost use Rattle.scan.specs.Runs.{run};
+ghost use Rattle.std.specs.Prelude.{◌≡◌, ◌<◌, [], length, MatchOption};
+ghost use Rattle.std.specs.Iterator.{at_most};
+ghost use Rattle.scan.specs.Cuts.{blank, visible, trimmed, first_word, after_word};
+
+use crate::runs::{Kind, past, split};
 
 // A space, a tab, or the carriage return that some hosts put before the line feed.
-fn is_blank(byte: u8) -> bool
-    ensures { result ≡ blank_is true byte }
-{
-    byte == b' ' || byte == b'\t' || byte == b'\r'
+pub struct Blank;
+
+impl Kind for Blank {
+    ghost includes = { blank };
+
+    fn is(byte: u8) -> bool {
+        matches!(byte, b' ' | b'\t' | b'\r')
+    }
 }
 
-// How many bytes at the front are blanks, or are none.
-fn leading(bytes: &[u8], blanks: bool) -> usize
-    ensures is { result ≡ run (blank_is blanks) bytes.now }
-    ensures within { result ≤ length bytes.now }
-{
-    for (i, byte) in bytes.iter().enumerate() {
-        if is_blank(*byte) != blanks {
-            return i;
-        }
+// Any other byte.
+pub struct Visible;
+
+impl Kind for Visible {
+    ghost includes = { visible };
+
+    fn is(byte: u8) -> bool {
+        !Blank::is(byte)
     }
-    bytes.len()
 }
 
 #[derive(Drop)]
@@ -35,22 +39,28 @@ impl<'a> Words<'a> {
         Words { rest: row }
     }
 
-    // The next word; empty where there is none.
-    pub fn next(&mut self) -> &'a [u8]
-        ensures word { result.now ≡ first_word self.old.rest.now }
-        ensures rest { self.new.rest.now ≡ after_word self.old.rest.now }
-    {
-        let row = self.rest;
-        let (_, trimmed) = row.split_at(leading(row, true));
-        let (word, rest) = trimmed.split_at(leading(trimmed, false));
-        self.rest = rest;
-        word
-    }
-
     // What no word was taken of yet.
     pub fn rest(&self) -> &'a [u8]
         ensures { result.now ≡ self.now.rest.now }
     {
         self.rest
+    }
+}
+
+// The words one after the other; none where only blanks are left.
+impl<'a> Iterator for Words<'a> {
+    type Item = &'a [u8];
+
+    ghost next_gives = { λ before word after.
+        MatchOption word (trimmed before.rest.now ≡ []) (λ w. (w.now ≡ first_word before.rest.now) × (0 < length w.now))
+        × (after.rest.now ≡ after_word before.rest.now) };
+
+    ghost remaining = { λ words. at_most (length words.rest.now) };
+
+    fn next(&mut self) -> Option<&'a [u8]> {
+        let trimmed = past::<Blank>(self.rest);
+        let (word, rest) = split::<Visible>(trimmed);
+        self.rest = rest;
+        if word.is_empty() { None } else { Some(word) }
     }
 }

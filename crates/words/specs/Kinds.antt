@@ -19,6 +19,6 @@ IsKind bs (Err (OpensNone p)) = ⊥
 IsKind bs (Ok Clear) = bs ≡ 42 ∷ []
 IsKind bs (Ok Hold) = bs ≡ 36 ∷ []
 IsKind bs (Ok Stop) = bs ≡ 35 ∷ []
-IsKind bs (Ok (Transfer rest)) = Readable bs × (bs ≡ 33 ∷ rest.now)
-IsKind bs (Ok (Words rest)) =
-    Readable bs × (rest.now ≡ bs) × (slice_index bs 0 ≢ 33) × (bs ≢ 42 ∷ []) × (bs ≢ 36 ∷ []) × (bs ≢ 35 ∷ [])
+IsKind bs (Ok (Transfer reader)) = Readable bs × (bs ≡ 33 ∷ reader.rest.now) × (reader.length ≡ length bs)
+IsKind bs (Ok (Words reader)) =
+    Readable bs × (reader.rest.now ≡ bs) × (reader.length ≡ length bs) × (slice_index bs 0 ≢ 33) × (bs ≢ 42 ∷ []) × (bs ≢ 36 ∷ []) × (bs ≢ 35 ∷ [])

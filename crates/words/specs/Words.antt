@@ -1,15 +1,16 @@
 -- The words of a line.
-use Rattle.std.specs.Prelude.{ℕ, Bool, cond, ◌||◌, List, [], drop, ◌==◌, slice_index}
-use Rattle.words.specs.Bytes.{blank, digit}
+use Rattle.std.specs.Prelude.{ℕ, Bool, cond, ◌||◌, List, [], drop, ◌==◌, slice_index, Some, None, Option}
+use Rattle.words.specs.Bytes.{blank}
+use Rattle.scan.specs.Numbers.{digit}
 use Rattle.scan.specs.Runs.{span, past}
 use Rattle.words.specs.declared.word.Sign.{Sign}
-use Rattle.words.specs.declared.word.Sign.TheVariants.{Absent, Plus, Minus}
+use Rattle.words.specs.declared.word.Sign.TheVariants.{Plus, Minus}
 use Rattle.words.specs.declared.word.Word.{Word}
 use Rattle.words.specs.declared.word.Word.TheVariants.{N, G, X, F, L, H}
 
 -- the sign at the front, if there is one, and what stands behind it
-abbrev pub sign_at : List ℕ → Sign
-sign_at bs = cond (slice_index bs 0 == 43) Plus (cond (slice_index bs 0 == 45) Minus Absent)
+abbrev pub sign_at : List ℕ → Option Sign
+sign_at bs = cond (slice_index bs 0 == 43) (Some Plus) (cond (slice_index bs 0 == 45) (Some Minus) None)
 
 abbrev pub after_sign : List ℕ → List ℕ
 after_sign bs = cond (slice_index bs 0 == 43 || slice_index bs 0 == 45) (drop 1 bs) bs
@@ -19,16 +20,16 @@ pub record Spelled : Type 0 where
   pub letter : ℕ
   pub place : ℕ
   pub code : List ℕ
-  pub sign : Sign
+  pub sign : Option Sign
   pub digits : List ℕ
 
 abbrev pub spelled : Word → Spelled
-spelled (N p ds) = record { letter = 78; place = p; code = []; sign = Absent; digits = ds.now }
-spelled (G p ds) = record { letter = 71; place = p; code = []; sign = Absent; digits = ds.now }
-spelled (X p s ds) = record { letter = 88; place = p; code = []; sign = s; digits = ds.now }
-spelled (F p ds) = record { letter = 70; place = p; code = []; sign = Absent; digits = ds.now }
-spelled (L p c s ds) = record { letter = 76; place = p; code = c.now; sign = s; digits = ds.now }
-spelled (H p ds) = record { letter = 72; place = p; code = []; sign = Absent; digits = ds.now }
+spelled (N p ds) = record { letter = 78; place = p; code = []; sign = None; digits = ds.bytes.now }
+spelled (G p ds) = record { letter = 71; place = p; code = []; sign = None; digits = ds.bytes.now }
+spelled (X p s ds) = record { letter = 88; place = p; code = []; sign = s; digits = ds.bytes.now }
+spelled (F p ds) = record { letter = 70; place = p; code = []; sign = None; digits = ds.bytes.now }
+spelled (L p c s ds) = record { letter = 76; place = p; code = c.bytes.now; sign = s; digits = ds.bytes.now }
+spelled (H p ds) = record { letter = 72; place = p; code = []; sign = None; digits = ds.bytes.now }
 
 abbrev pub takes_sign : ℕ → Bool
 takes_sign c = c == 88 || c == 76
@@ -40,8 +41,8 @@ code_of c bs = cond (c == 76) (span digit bs) []
 abbrev pub number_at : ℕ → List ℕ → List ℕ
 number_at c bs = cond (c == 76) (past blank (past digit bs)) bs
 
-abbrev pub sign_of : ℕ → List ℕ → Sign
-sign_of c bs = cond (takes_sign c) (sign_at (number_at c bs)) Absent
+abbrev pub sign_of : ℕ → List ℕ → Option Sign
+sign_of c bs = cond (takes_sign c) (sign_at (number_at c bs)) None
 
 abbrev pub digits_at : ℕ → List ℕ → List ℕ
 digits_at c bs = cond (takes_sign c) (after_sign (number_at c bs)) (number_at c bs)

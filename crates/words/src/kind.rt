@@ -1,22 +1,22 @@
 // The kinds of host line.
-ghost use Rattle.std.specs.Prelude.{◌≡◌};
 ghost use Rattle.words.specs.Kinds.{IsKind};
 
+use crate::reader::Reader;
 use crate::runs::trimmed;
 use crate::word::ByteFault;
 
 // A line is at most this long.
 const LONGEST: usize = 80;
 
-#[derive(Clone, Copy)]
+#[derive(Clone, Copy, PartialEq, Eq, Debug)]
 pub enum Line<'a> {
     Clear,
     Hold,
     Stop,
-    // What stands behind `!`.
-    Transfer { rest: &'a [u8] },
-    // Any other line, whole.
-    Words { rest: &'a [u8] },
+    // Over what stands behind `!`.
+    Transfer { reader: Reader<'a> },
+    // Over any other line, whole.
+    Words { reader: Reader<'a> },
 }
 
 pub fn kind(line: &[u8]) -> Result<Line<'_>, ByteFault>
@@ -32,7 +32,11 @@ pub fn kind(line: &[u8]) -> Result<Line<'_>, ByteFault>
         [b'*'] => Ok(Line::Clear),
         [b'$'] => Ok(Line::Hold),
         [b'#'] => Ok(Line::Stop),
-        [b'!', rest @ ..] => Ok(Line::Transfer { rest }),
-        _ => Ok(Line::Words { rest: line }),
+        [b'!', rest @ ..] => Ok(Line::Transfer {
+            reader: Reader::new(rest, line.len()),
+        }),
+        _ => Ok(Line::Words {
+            reader: Reader::new(line, line.len()),
+        }),
     }
 }

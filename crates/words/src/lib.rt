@@ -2,6 +2,7 @@
 #![tactic(auto)]
 
 pub mod bytes;
+pub mod digits;
 pub mod kind;
 pub mod reader;
 mod runs;

@@ -1,11 +1,14 @@
 // One word after the other.
-ghost use Rattle.std.specs.Prelude.{◌≡◌, ◌-◌, length};
+ghost use Rattle.std.specs.Prelude.{◌≡◌, true, false, MatchOption};
+ghost use Rattle.words.specs.Bytes.{letter};
+ghost use Rattle.words.specs.Words.{spelled, word_of, behind};
 ghost use Rattle.words.specs.Reading.{Reads};
 
 use crate::runs::{run_of_digits, signed, trimmed};
-use crate::word::{ByteFault, Sign, Word};
+use crate::word::{ByteFault, Word};
 
-#[derive(Drop)]
+// What is left of a line.
+#[derive(Clone, Copy, PartialEq, Eq, Debug)]
 pub struct Reader<'a> {
     rest: &'a [u8],
     // Of the whole line, so that places count from its first byte.
@@ -27,56 +30,52 @@ impl<'a> Reader<'a> {
         ensures length { self.new.length ≡ self.old.length }
     {
         let line = trimmed(self.rest);
-        if line.is_empty() {
+        let [opening, body @ ..] = line else {
             self.rest = line;
             return Ok(None);
-        }
-        let (_, body) = line.split_at(1);
+        };
         let place = self.length.saturating_sub(body.len());
-        match char::from(line[0]) {
-            'N' => {
-                let (digits, rest) = run_of_digits(body);
-                self.rest = rest;
-                Ok(Some(Word::N { place, digits }))
-            }
-            'G' => {
-                let (digits, rest) = run_of_digits(body);
-                self.rest = rest;
-                Ok(Some(Word::G { place, digits }))
-            }
-            'X' => {
-                let (sign, number) = signed(body);
-                let (digits, rest) = run_of_digits(number);
-                self.rest = rest;
-                Ok(Some(Word::X {
+        let (word, rest) = opened(*opening, place, body).ok_or(ByteFault::OpensNone { place })?;
+        self.rest = rest;
+        Ok(Some(word))
+    }
+}
+
+// The word of this letter and what stands behind it, if it is a letter.
+fn opened(opening: u8, place: usize, body: &[u8]) -> Option<(Word<'_>, &[u8])>
+    ensures { MatchOption result (letter opening ≡ false) (λ r. (letter opening ≡ true) × (spelled r.0 ≡ word_of place opening body.now) × (r.1.now ≡ behind opening body.now)) }
+{
+    let (digits, behind) = run_of_digits(body);
+    match char::from(opening) {
+        'N' => Some((Word::N { place, digits }, behind)),
+        'G' => Some((Word::G { place, digits }, behind)),
+        'X' => {
+            let (sign, number) = signed(body);
+            let (digits, behind) = run_of_digits(number);
+            Some((
+                Word::X {
                     place,
                     sign,
                     digits,
-                }))
-            }
-            'F' => {
-                let (digits, rest) = run_of_digits(body);
-                self.rest = rest;
-                Ok(Some(Word::F { place, digits }))
-            }
-            'L' => {
-                let (code, behind) = run_of_digits(body);
-                let (sign, number) = signed(trimmed(behind));
-                let (digits, rest) = run_of_digits(number);
-                self.rest = rest;
-                Ok(Some(Word::L {
-                    place,
-                    code,
-                    sign,
-                    digits,
-                }))
-            }
-            'H' => {
-                let (digits, rest) = run_of_digits(body);
-                self.rest = rest;
-                Ok(Some(Word::H { place, digits }))
-            }
-            _ => Err(ByteFault::OpensNone { place }),
+                },
+                behind,
+            ))
         }
+        'F' => Some((Word::F { place, digits }, behind)),
+        'L' => {
+            let (sign, number) = signed(trimmed(behind));
+            let (data, behind) = run_of_digits(number);
+            Some((
+                Word::L {
+                    place,
+                    code: digits,
+                    sign,
+                    digits: data,
+                },
+                behind,
+            ))
+        }
+        'H' => Some((Word::H { place, digits }, behind)),
+        _ => None,
     }
 }

@@ -1,43 +1,44 @@
 // The words of a host line, and what is wrong with a line's bytes.
+use crate::digits::Digits;
+
 pub mod place;
 
 #[derive(Clone, Copy, PartialEq, Eq, Debug)]
 pub enum Sign {
-    Absent,
     Plus,
     Minus,
 }
 
-// A letter, the place of it (bytes count from 1), and the digits behind it, which stay the line's own bytes.
-#[derive(Clone, Copy)]
+// A letter, the place of it (bytes count from 1), and the digits behind it.
+#[derive(Clone, Copy, PartialEq, Eq, Debug)]
 pub enum Word<'a> {
     N {
         place: usize,
-        digits: &'a [u8],
+        digits: Digits<'a>,
     },
     G {
         place: usize,
-        digits: &'a [u8],
+        digits: Digits<'a>,
     },
     X {
         place: usize,
-        sign: Sign,
-        digits: &'a [u8],
+        sign: Option<Sign>,
+        digits: Digits<'a>,
     },
     F {
         place: usize,
-        digits: &'a [u8],
+        digits: Digits<'a>,
     },
     // The digits of the code, then the data with its sign.
     L {
         place: usize,
-        code: &'a [u8],
-        sign: Sign,
-        digits: &'a [u8],
+        code: Digits<'a>,
+        sign: Option<Sign>,
+        digits: Digits<'a>,
     },
     H {
         place: usize,
-        digits: &'a [u8],
+        digits: Digits<'a>,
     },
 }
 

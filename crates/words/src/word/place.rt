@@ -23,9 +23,6 @@ impl<'a> Word<'a> {
     pub fn is_line(self) -> bool
         ensures { result ≡ ((spelled self.entry).letter == 78) }
     {
-        match self {
-            Word::N { .. } => true,
-            _ => false,
-        }
+        matches!(self, Word::N { .. })
     }
 }
