@@ -1,6 +1,5 @@
 // The answers that come out of the memory and the parameters.
-ghost use Rattle.std.specs.Prelude.{◌≡◌, slice_index_or};
-ghost use Rattle.program.specs.Memories.{unprogrammed};
+ghost use Rattle.std.specs.Prelude.{◌≡◌};
 ghost use Rattle.reply.specs.Sendings.{line_sent, parameter_sent};
 ghost use Rattle.reply.specs.declared.answer.Answer.TheVariants.{Pointer};
 
@@ -12,22 +11,13 @@ use program::number::LineNumber;
 use settings::parameter::Parameter;
 use settings::values::Settings;
 
-fn line_at(lines: &[Fields], i: usize) -> Fields
-    ensures { result ≡ slice_index_or lines.now i unprogrammed }
-{
-    if i < lines.len() {
-        return lines[i];
-    }
-    UNPROGRAMMED
-}
-
 // H13: where there is no such line in the memory, none is programmed.
 pub fn send_line(lines: &[Fields], line: LineNumber) -> Answer
     ensures { result ≡ line_sent lines.now line.number }
 {
     Answer::ProgramLine {
         number: line.number(),
-        fields: line_at(lines, line.index()),
+        fields: lines.get(line.index()).copied().unwrap_or(UNPROGRAMMED),
     }
 }
 
