@@ -1,6 +1,7 @@
 // What the drive at the bottom of a pile shows of itself.
-ghost use Rattle.std.specs.Prelude.{◌≡◌};
+ghost use Rattle.std.specs.Prelude.{◌≡◌, Some};
 ghost use Rattle.axis.specs.declared.display.Shown.{Shown};
+ghost use Rattle.axis.specs.Printed.{printed};
 
 use std::fmt;
 
@@ -18,6 +19,8 @@ pub enum Shown {
 }
 
 impl fmt::Display for Shown {
+    ghost output = { λ shown. Some (printed shown) };
+
     fn fmt<W: fmt::Write>(&self, f: &mut fmt::Formatter<W>) -> fmt::Result {
         match *self {
             Shown::Counts {
