@@ -1,5 +1,6 @@
 -- A ramp and a move by their numbers.
-use Rattle.std.specs.Prelude.{◌≡◌, ℕ, List, [], ◌∷◌, Option, IfSome, MatchOption}
+use Rattle.std.specs.Prelude.{◌≡◌, ℕ, List, Option, IfSome, IfNone}
+use Rattle.std.specs.Iterator.{YieldsFirstBy}
 use Rattle.ramp.specs.Rates.{rate_at, ceiling_level, ticks, LeastAtTop}
 use Rattle.ramp.specs.Levels.{to_come}
 use Rattle.ramp.specs.declared.climb.Climb.{Climb}
@@ -32,8 +33,9 @@ pub record AtLevel (a : Ramp) (s : ℕ) (p : Pulse) : Type 0 where
   pub rate : p.rate.per_second ≡ rate_of a s
   pub wait : p.wait ≡ ticks (rate_of a s)
 
--- what a call of the move c gives, and the move that it leaves: the ramp stays, and the first of the levels left comes as a pulse of that level
+-- a call of the move c gives r and leaves d: on the same ramp, the first of the levels left comes as a pulse of that level; after the last nothing changes
 pub record GivesPulse (c : Course) (r : Option Pulse) (d : Course) : Type 0 where
   pub ramp : d.ramp ≡ c.ramp
-  pub levels : MatchOption r ((levels_left c ≡ []) × (d ≡ c)) (λ p. levels_left c ≡ p.level ∷ levels_left d)
+  pub levels : YieldsFirstBy (λ p. p.level) levels_left c r d
   pub pulse : IfSome r (λ p. AtLevel c.ramp p.level p)
+  pub rests : IfNone r (d ≡ c)

@@ -51,10 +51,9 @@ impl Climb {
         if self.low >= self.speed {
             return 0;
         }
-        let l = u64::from(self.low);
-        let v = u64::from(self.speed);
-        let a2 = 2 * u64::from(self.acceleration);
-        (v * v - l * l + (a2 - 1)) / a2 - self.lift()
+        let low = u64::from(self.low);
+        let speed = u64::from(self.speed);
+        (speed * speed - low * low).div_ceil(2 * u64::from(self.acceleration)) - self.lift()
     }
 
     // The rate at a level.
@@ -66,10 +65,10 @@ impl Climb {
                 per_second: self.speed,
             };
         }
-        let l = u64::from(self.low);
-        let square = l * l + 2 * u64::from(self.acceleration) * (u64::from(level) + self.lift());
+        let low = u64::from(self.low);
+        let rise = 2 * u64::from(self.acceleration) * (u64::from(level) + self.lift());
         Rate {
-            per_second: self.speed.min(whole_root(square)),
+            per_second: self.speed.min(whole_root(low * low + rise)),
         }
     }
 }

@@ -10,16 +10,16 @@ use crate::motor::Motor;
 use crate::shape::Ramp;
 
 impl Course {
-    // A move of n pulses, not yet begun.
-    pub fn new(ramp: Ramp, n: u32) -> Course
+    // A move of `count` pulses, not yet begun.
+    pub fn new(ramp: Ramp, count: u32) -> Course
         ensures ramp { result.ramp ≡ ramp }
-        ensures levels { levels_left result ≡ to_come AtRest (ceiling_of ramp) n }
-        ensures law { FromRestToRest (ceiling_of ramp) n (levels_left result) }
+        ensures levels { levels_left result ≡ to_come AtRest (ceiling_of ramp) count }
+        ensures law { FromRestToRest (ceiling_of ramp) count (levels_left result) }
     {
         Course {
             ramp,
             motor: Motor::AtRest,
-            left: n,
+            left: count,
         }
     }
 }

@@ -1,5 +1,5 @@
 // The rate of a level, the level that a move climbs to, and the level of its next pulse.
-ghost use Rattle.std.specs.Prelude.{◌≡◌, false, MatchOption};
+ghost use Rattle.std.specs.Prelude.{◌≡◌, false, IfSome, MatchOption};
 ghost use Rattle.ramp.specs.Rates.{in_range};
 ghost use Rattle.ramp.specs.Levels.{next_level};
 ghost use Rattle.ramp.specs.Courses.{HasNumbers, rate_of, ceiling_of, Ceiling};
@@ -13,7 +13,8 @@ use crate::rate::Rate;
 impl Ramp {
     // None where a number is out of its range, or the low speed is 0 at low speed.
     pub fn new(mode: SpeedMode, low: u32, acceleration: u32, speed: u32) -> Option<Ramp>
-        ensures { MatchOption result (in_range mode low acceleration speed ≡ false) (λ a. (a.mode ≡ mode) × HasNumbers low acceleration speed a.climb) }
+        ensures numbers { MatchOption result (in_range mode low acceleration speed ≡ false) (λ a. HasNumbers low acceleration speed a.climb) }
+        ensures mode { IfSome result (λ a. a.mode ≡ mode) }
     {
         let climb = Climb::new(low, acceleration, speed)?;
         if !mode.drives(low) {

@@ -10,6 +10,7 @@ returns-clause-steps c =
     record {
       ramp = refl;
       levels = one_on s.motor (ceiling_of s.ramp) s.left c.next-level.result (omega arith) c.next-level.ensures;
+      rests = tt;
       pulse = record { level = refl; rate = c.rate-rate.ensures; wait = c.wait.ensures ∙ ap ticks c.rate-rate.ensures };
     }
 
