@@ -4,6 +4,7 @@ ghost use Rattle.reply.specs.RoundTrips.{Sendable, RoundTrip};
 ghost use Rattle.reply.specs.Texts.{code_text, x_text, feed_text, line_text, end};
 
 use crate::digits::{digit, sign};
+use codes::coded::Coded;
 use codes::program::ProgramCode;
 use orders::heard::Fields;
 

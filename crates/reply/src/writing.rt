@@ -5,6 +5,7 @@ ghost use Rattle.reply.specs.Texts.{text, parameter_text};
 use crate::answer::Answer;
 use crate::line::program_line;
 use crate::texts::{flags, home_direction, plain_value, pointer, position, signed_value};
+use codes::coded::Coded;
 use settings::parameter::Parameter;
 
 // How many bytes were written, all at the front.
