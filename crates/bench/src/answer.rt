@@ -1,5 +1,6 @@
 // An order in words, or what is wrong with its line.
 use clerk::Told;
+use codes::coded::Coded;
 use orders::fault::WordFault;
 use orders::heard::{Fields, Setting};
 use orders::order::Order;

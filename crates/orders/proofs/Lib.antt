@@ -1,6 +1,5 @@
 pub mod Blanks
 pub mod ByKind
-pub mod Coded
 pub mod Cutting
 pub mod FirstByte
 pub mod FirstByteLaw

@@ -7,8 +7,10 @@ ghost use Rattle.orders.specs.Meanings.{hear, meaning, setting, nothing};
 use crate::fault::WordFault;
 use crate::heard::{Fields, Heard, Setting};
 use crate::numbers::{data, number};
-use crate::tables::{host_code, parameter, program_code};
 use crate::wrong::{is_foreign, is_missing, is_outside, is_unnamed};
+use codes::coded::Coded;
+use codes::host::HostCode;
+use codes::program::ProgramCode;
 use scan::field::Field;
 use settings::parameter::Parameter;
 use settings::values::Settings;
@@ -46,7 +48,7 @@ impl Heard {
     {
         match word {
             Word::N { digits, .. } => self.line = Some(Field::Line.value(digits)),
-            Word::G { digits, .. } => self.fields.code = program_code(Field::Code.value(digits)),
+            Word::G { digits, .. } => self.fields.code = ProgramCode::coded(Field::Code.value(digits)),
             Word::X { sign, digits, .. } => self.fields.x = Some(number(sign, digits)),
             Word::F { digits, .. } => self.fields.feed = Some(Field::Feed.value(digits)),
             Word::L {
@@ -56,9 +58,9 @@ impl Heard {
                 ..
             } => {
                 let number = data(code, sign, digits);
-                self.setting = setting(parameter(Field::Code.value(code)), number);
+                self.setting = setting(Parameter::coded(Field::Code.value(code)), number);
             }
-            Word::H { digits, .. } => self.host = host_code(Field::Code.value(digits)),
+            Word::H { digits, .. } => self.host = HostCode::coded(Field::Code.value(digits)),
         }
     }
 

@@ -6,8 +6,9 @@ ghost use Rattle.orders.specs.Meanings.{missing, foreign, any_field, absent, unn
 
 use crate::heard::{Fields, Heard};
 use crate::numbers::{HOME_DIRECTION, data};
-use crate::tables::{host_code, parameter, program_code};
+use codes::coded::Coded;
 use codes::host::HostCode;
+use codes::program::ProgramCode;
 use scan::field::Field;
 use settings::parameter::Parameter;
 use settings::values::Settings;
@@ -94,14 +95,14 @@ pub fn is_unnamed(bang: bool, word: Word<'_>) -> bool
 {
     if bang {
         return match word {
-            Word::H { digits, .. } => !asks(host_code(Field::Code.value(digits))),
+            Word::H { digits, .. } => !asks(HostCode::coded(Field::Code.value(digits))),
             _ => true,
         };
     }
     match word {
-        Word::G { digits, .. } => program_code(Field::Code.value(digits)).is_none(),
-        Word::H { digits, .. } => host_code(Field::Code.value(digits)).is_none(),
-        Word::L { code, .. } => parameter(Field::Code.value(code)).is_none(),
+        Word::G { digits, .. } => ProgramCode::coded(Field::Code.value(digits)).is_none(),
+        Word::H { digits, .. } => HostCode::coded(Field::Code.value(digits)).is_none(),
+        Word::L { code, .. } => Parameter::coded(Field::Code.value(code)).is_none(),
         _ => false,
     }
 }
@@ -113,8 +114,7 @@ fn takes(settings: &Settings, parameter: Option<Parameter>, number: i32) -> bool
     let Some(parameter) = parameter else {
         return false;
     };
-    let (least, most) = settings.range(parameter);
-    least <= number && number <= most
+    settings.takes(parameter, number)
 }
 
 // Whether there is no such program line, or the parameter does not take the number.
@@ -134,7 +134,7 @@ pub fn is_outside(settings: &Settings, word: Word<'_>) -> bool
             ..
         } => {
             let number = data(code, sign, digits);
-            !takes(settings, parameter(Field::Code.value(code)), number)
+            !takes(settings, Parameter::coded(Field::Code.value(code)), number)
         }
         _ => false,
     }

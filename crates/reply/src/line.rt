@@ -4,6 +4,7 @@ ghost use Rattle.reply.specs.RoundTrips.{Sendable, RoundTrip};
 ghost use Rattle.reply.specs.Texts.{line_text, end};
 
 use crate::digits::{put_digits, sign};
+use codes::coded::Coded;
 use orders::heard::Fields;
 
 // With carriage return and line feed; a field that is absent is left blank.

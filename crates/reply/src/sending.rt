@@ -4,8 +4,8 @@ ghost use Rattle.reply.specs.Sendings.{line_sent, parameter_sent};
 ghost use Rattle.reply.specs.declared.answer.Answer.TheVariants.{Pointer};
 
 use crate::answer::Answer;
+use codes::coded::Coded;
 use orders::heard::Fields;
-use orders::tables::parameter;
 use program::clearing::UNPROGRAMMED;
 use program::number::LineNumber;
 use settings::parameter::Parameter;
@@ -35,7 +35,7 @@ pub fn send_parameter(settings: &Settings) -> Answer
     ensures { result ≡ parameter_sent settings.now }
 {
     let code = settings.get(Parameter::TransferCode);
-    match parameter(code.unsigned_abs()) {
+    match Parameter::coded(code.unsigned_abs()) {
         Some(parameter) => Answer::Parameter {
             parameter,
             value: settings.get(parameter),

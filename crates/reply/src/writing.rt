@@ -6,6 +6,7 @@ use crate::answer::Answer;
 use crate::digits::bit;
 use crate::line::program_line;
 use crate::texts::{flags, home_direction, plain_value, pointer, position, signed_value};
+use codes::coded::Coded;
 use settings::parameter::Parameter;
 
 // Puts bytes at the front, and tells how many.
