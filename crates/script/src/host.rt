@@ -49,11 +49,7 @@ pub fn fill(line: &mut Vec<u8>, row: &[u8], form: Form) -> Result<Result<(), Mis
     match form {
         Form::Text => line.extend_from_slice(typed(words.rest()))?,
         Form::Hex => {
-            for _ in 0..row.len() {
-                let word = words.next();
-                if word.is_empty() {
-                    break;
-                }
+            for word in words {
                 let Some(byte) = hex_byte(word) else {
                     return Ok(Err(Mistake::Hex));
                 };

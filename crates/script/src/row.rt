@@ -68,15 +68,16 @@ pub enum Form {
 
 pub fn read(row: &[u8]) -> Result<Row, Mistake> {
     let mut words = Words::new(row);
-    let name = words.next();
+    let Some(name) = words.next() else {
+        return Ok(Row::Remark);
+    };
     if let [b'-', b'-', ..] = name {
         return Ok(Row::Remark);
     }
     let meant = match text(name) {
-        "" => Row::Remark,
         "axis" => Row::Axis(chosen(&mut words)?),
         "windings" => Row::Windings {
-            on: switch(words.next())?,
+            on: switch(&mut words)?,
         },
         "pulse" => pulse(&mut words)?,
         "drive" => Row::Drive,
@@ -85,51 +86,55 @@ pub fn read(row: &[u8]) -> Result<Row, Mistake> {
         "read-hex" => return Ok(Row::Read(Form::Hex)),
         "line" => return Ok(Row::Line(Form::Text)),
         "hex" => return Ok(Row::Line(Form::Hex)),
-        "room" => Row::Room(memory(words.next())?),
-        "lend" => Row::Lend(memory(words.next())?),
+        "room" => Row::Room(memory(&mut words)?),
+        "lend" => Row::Lend(memory(&mut words)?),
         _ => return Err(Mistake::Unknown),
     };
-    match text(words.next()) {
-        "" => Ok(meant),
-        _ => Err(Mistake::Extra),
+    match words.next() {
+        None => Ok(meant),
+        Some(_) => Err(Mistake::Extra),
     }
 }
 
-fn amount(word: &[u8]) -> Result<u32, Mistake> {
-    number(word).ok_or(Mistake::Number)
+fn amount(words: &mut Words) -> Result<u32, Mistake> {
+    whole(words.next())
 }
 
-fn memory(word: &[u8]) -> Result<u32, Mistake> {
-    match number(word) {
+fn whole(word: Option<&[u8]>) -> Result<u32, Mistake> {
+    word.and_then(number).ok_or(Mistake::Number)
+}
+
+fn memory(words: &mut Words) -> Result<u32, Mistake> {
+    match words.next().and_then(number) {
         Some(size) if size <= MOST => Ok(size),
         _ => Err(Mistake::Memory),
     }
 }
 
 fn pulse(words: &mut Words) -> Result<Row, Mistake> {
-    let way = way(words.next())?;
+    let way = way(words)?;
     let count = match words.next() {
-        [] => 1,
-        digits => amount(digits)?,
+        None => 1,
+        digits => whole(digits)?,
     };
     Ok(Row::Pulse { way, count })
 }
 
 fn ramp(words: &mut Words) -> Result<Row, Mistake> {
     let first = words.next();
-    let pace = match text(first) {
-        "low" => Pace::Low {
-            low: amount(words.next())?,
+    let pace = match first.map(text) {
+        Some("low") => Pace::Low {
+            low: amount(words)?,
         },
-        _ => climb(amount(first)?, words)?,
+        _ => climb(whole(first)?, words)?,
     };
-    let count = amount(words.next())?;
+    let count = amount(words)?;
     Ok(Row::Ramp { pace, count })
 }
 
 fn climb(low: u32, words: &mut Words) -> Result<Pace, Mistake> {
-    let acceleration = amount(words.next())?;
-    let speed = amount(words.next())?;
+    let acceleration = amount(words)?;
+    let speed = amount(words)?;
     Ok(Pace::High {
         low,
         acceleration,
@@ -137,76 +142,77 @@ fn climb(low: u32, words: &mut Words) -> Result<Pace, Mistake> {
     })
 }
 
-fn way(word: &[u8]) -> Result<Direction, Mistake> {
-    match text(word) {
-        "cw" => Ok(Direction::Clockwise),
-        "ccw" => Ok(Direction::Counterclockwise),
+fn way(words: &mut Words) -> Result<Direction, Mistake> {
+    match next_name(words) {
+        Some("cw") => Ok(Direction::Clockwise),
+        Some("ccw") => Ok(Direction::Counterclockwise),
         _ => Err(Mistake::Way),
     }
 }
 
-fn switch(word: &[u8]) -> Result<bool, Mistake> {
-    match text(word) {
-        "on" => Ok(true),
-        "off" => Ok(false),
+fn switch(words: &mut Words) -> Result<bool, Mistake> {
+    match next_name(words) {
+        Some("on") => Ok(true),
+        Some("off") => Ok(false),
         _ => Err(Mistake::Switch),
     }
 }
 
 fn read_allowance(words: &mut Words) -> Result<Allowance, Mistake> {
-    let down = amount(words.next())?;
-    let up = amount(words.next())?;
+    let down = amount(words)?;
+    let up = amount(words)?;
     Ok(Allowance { down, up })
 }
 
 fn chosen(words: &mut Words) -> Result<Pile, Mistake> {
-    match text(words.next()) {
-        "pin" => Ok(Pile::Pin),
-        "phase" => Ok(Pile::Phase),
-        "reversed" => reversed(words.next()),
-        "fence" => fenced(words),
-        "standard" => Ok(Pile::Standard(read_allowance(words)?)),
+    match next_name(words) {
+        Some("pin") => Ok(Pile::Pin),
+        Some("phase") => Ok(Pile::Phase),
+        Some("reversed") => reversed(words),
+        Some("fence") => fenced(words),
+        Some("standard") => Ok(Pile::Standard(read_allowance(words)?)),
         _ => Err(Mistake::Pile),
     }
 }
 
-fn reversed(drive: &[u8]) -> Result<Pile, Mistake> {
-    match text(drive) {
-        "pin" => Ok(Pile::ReversedPin),
-        "phase" => Ok(Pile::ReversedPhase),
+fn reversed(words: &mut Words) -> Result<Pile, Mistake> {
+    match next_name(words) {
+        Some("pin") => Ok(Pile::ReversedPin),
+        Some("phase") => Ok(Pile::ReversedPhase),
         _ => Err(Mistake::Pile),
     }
 }
 
 fn fenced(words: &mut Words) -> Result<Pile, Mistake> {
     let outer = read_allowance(words)?;
-    match text(words.next()) {
-        "pin" => Ok(Pile::FencePin(outer)),
-        "reversed" => fenced_reversed(outer, words.next()),
-        "fence" => fenced_twice(outer, words),
+    match next_name(words) {
+        Some("pin") => Ok(Pile::FencePin(outer)),
+        Some("reversed") => fenced_reversed(outer, words),
+        Some("fence") => fenced_twice(outer, words),
         _ => Err(Mistake::Pile),
     }
 }
 
-fn fenced_reversed(outer: Allowance, drive: &[u8]) -> Result<Pile, Mistake> {
-    match text(drive) {
-        "phase" => Ok(Pile::FenceReversedPhase(outer)),
+fn fenced_reversed(outer: Allowance, words: &mut Words) -> Result<Pile, Mistake> {
+    match next_name(words) {
+        Some("phase") => Ok(Pile::FenceReversedPhase(outer)),
         _ => Err(Mistake::Pile),
     }
 }
 
 fn fenced_twice(outer: Allowance, words: &mut Words) -> Result<Pile, Mistake> {
     let inner = read_allowance(words)?;
-    match text(words.next()) {
-        "pin" => Ok(Pile::FenceFencePin { outer, inner }),
+    match next_name(words) {
+        Some("pin") => Ok(Pile::FenceFencePin { outer, inner }),
         _ => Err(Mistake::Pile),
     }
 }
 
+fn next_name<'a>(words: &mut Words<'a>) -> Option<&'a str> {
+    words.next().map(text)
+}
+
 // A word that is no text is no name either.
 fn text(word: &[u8]) -> &str {
-    match std::str::from_utf8(word) {
-        Ok(name) => name,
-        Err(_) => "?",
-    }
+    std::str::from_utf8(word).unwrap_or("?")
 }
