@@ -1,5 +1,5 @@
 // An axis by four coils, in eight phases to a turn.
-ghost use Rattle.std.specs.Prelude.{◌≡◌, ◌<◌, false, ◌&&◌, pos, ◌≤ℤ◌, MatchOption, nat_lt};
+ghost use Rattle.std.specs.Prelude.{◌≡◌, ◌<◌, false, ◌&&◌, pos, ◌≤ℤ◌, IfNone, IfSome, nat_lt};
 ghost use Rattle.axis.specs.Pulses.{within};
 ghost use Rattle.phase.specs.Phases.{turned, low_end, high_end, coil_bits};
 ghost use Rattle.axis.specs.declared.display.Shown.TheVariants.{Coils};
@@ -41,7 +41,10 @@ impl PhaseAxis {
 
     // In this phase of this turn; none where there is no such phase, or it lies past the ends.
     pub fn at(turns: i32, phase: u8, on: bool) -> Option<PhaseAxis>
-        ensures { MatchOption result ((nat_lt phase 8 && within low_end high_end (turned turns phase)) ≡ false) (λ a. (a.turns ≡ turns) × (a.phase ≡ phase) × (a.on ≡ on)) }
+        ensures none { IfNone result ((nat_lt phase 8 && within low_end high_end (turned turns phase)) ≡ false) }
+        ensures turns { IfSome result (λ a. a.turns ≡ turns) }
+        ensures phase { IfSome result (λ a. a.phase ≡ phase) }
+        ensures on { IfSome result (λ a. a.on ≡ on) }
     {
         if phase > 7 {
             return None;

@@ -1,5 +1,5 @@
 // An axis by two pins: each pulse is counted on the pin of its direction.
-ghost use Rattle.std.specs.Prelude.{◌≡◌, false, ◌+ℤ◌, ◌≤ℤ◌, if◌then◌else◌, MatchOption};
+ghost use Rattle.std.specs.Prelude.{◌≡◌, false, ◌+ℤ◌, ◌≤ℤ◌, if◌then◌else◌, IfNone, IfSome};
 ghost use Rattle.axis.specs.Pulses.{takes, within};
 ghost use Rattle.axis.specs.Steps.{step};
 ghost use Rattle.pin.specs.Counts.{apart, low_end, high_end, Telling, clockwise_after, counterclockwise_after};
@@ -46,7 +46,10 @@ impl PinAxis {
 
     // With these counts; none where they give a place past the ends.
     pub fn counted(clockwise: u32, counterclockwise: u32, on: bool) -> Option<PinAxis>
-        ensures { MatchOption result (within low_end high_end (apart clockwise counterclockwise) ≡ false) (λ a. (a.clockwise ≡ clockwise) × (a.counterclockwise ≡ counterclockwise) × (a.on ≡ on)) }
+        ensures none { IfNone result (within low_end high_end (apart clockwise counterclockwise) ≡ false) }
+        ensures clockwise { IfSome result (λ a. a.clockwise ≡ clockwise) }
+        ensures counterclockwise { IfSome result (λ a. a.counterclockwise ≡ counterclockwise) }
+        ensures on { IfSome result (λ a. a.on ≡ on) }
     {
         let place = told(clockwise, counterclockwise);
         if !(LOW_END..=HIGH_END).contains(&place) {
