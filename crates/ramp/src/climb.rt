@@ -45,6 +45,7 @@ impl Climb {
     }
 
     // The level at which the speed is reached.
+    #[tactic(auto, using(crate::proofs::Climbs::rounded_up))]
     pub(crate) fn ceiling(self) -> u64
         ensures { result ≡ ceiling_level High self.low self.acceleration self.speed }
     {

@@ -141,7 +141,7 @@ const RATES: [Case; 16] = [
 
 #[test]
 fn rates(rt: HostRuntime) -> Result<(), Fail> {
-    for case in RATES.iter() {
+    for case in &RATES {
         let (mode, low, acceleration, speed) = case.ramp;
         let ramp = Ramp::new(mode, low, acceleration, speed).ok_or("out of range")?;
         let rate = ramp.rate(case.level);

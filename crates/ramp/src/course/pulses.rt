@@ -32,6 +32,7 @@ impl Iterator for Course {
     ghost remaining = { item_count levels_left };
 
     // The next pulse, or none after the last.
+    #[tactic(auto, using(crate::proofs::Profiles::one_on))]
     fn next(&mut self) -> Option<Pulse> {
         if self.left == 0 {
             return None;
