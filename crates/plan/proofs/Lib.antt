@@ -1,1 +1,1 @@
-pub mod Left
+pub mod Walked

@@ -34,12 +34,14 @@ pub(crate) fn any_is_past<B: Border>(border: &B, legs: Legs, counter: i32) -> bo
     ensures { result ≡ any_leg (B.past border.now) counter (listed legs) }
 {
     let mut end = counter as i64;
-    for leg in [Some(legs.first), legs.second, legs.third] {
-        if let Some(leg) = leg {
-            end += leg.pulses;
-            if border.is_past(leg.pulses, end) {
-                return true;
-            }
+    for leg in [Some(legs.first), legs.second, legs.third]
+        .iter()
+        .copied()
+        .flatten()
+    {
+        end += leg.pulses;
+        if border.is_past(leg.pulses, end) {
+            return true;
         }
     }
     false

@@ -1,36 +1,50 @@
-use Rattle.std.proofs.Common.{◌≡◌, true, false, Some, ◌∷◌, [], ◌+ℤ◌, sym, ◌∙◌, rules, arith, to_z, of_z, w32, w64}
-use Rattle.std.proofs.lemmas.Int.{ints}
-use Rattle.plan.proofs.Left.{such, other, none}
-use Rattle.plan.proofs.border.any_is_past.Goals.{in-Some+else-is_past, in_default}
+use Rattle.std.proofs.Common.{◌≡◌, true, false, length, ◌+ℤ◌, sym, ◌∙◌, rules, arith, to_z, of_z, w32, w64}
+use Rattle.std.proofs.lemmas.List.{at_drop_all, length_push}
+use Rattle.std.proofs.lemmas.Iterator.Consumers.{YieldsList-turn, YieldsList-end}
+use Rattle.plan.proofs.Walked.{walked, any_left, gives, goes}
 use Rattle.plan.proofs.border.any_is_past.Goals as goal
+
+pub overflow_add-end : goal.overflow_add-end
+overflow_add-end g c =
+    let pulses : to_z w64 (of_z w64 c.in-Some.leg.pulses) ≡ c.in-Some.leg.pulses = search rules in
+    let flat = c.flatten-leg-items.ensures in
+    let road = gives c.args.legs _ (λ x j b. b.0) c.iter.ensures.rest c.copied.ensures.source flat.source flat.front flat.back flat.done c.into_iter-leg-iterator.ensures.into_iter_gives in
+    let turn = YieldsList-turn road c.loop-leg.yielded _ c.loop-leg.yielded_by _ _ c.in-Some.leg c.in-Some.is c.next.ensures.steps in
+    let next = goes (g.B.Border.past c.args.border.now) c.args.legs _ _ c.in-Some.leg c.loop-leg.invariant.near turn in
+    rw pulses next.small
 
 pub returns-then-is_past : goal.returns-then-is_past
 returns-then-is_past g c =
-    let legs = c.args.legs in
-    let leg = c.in-Some.leg in
-    let past = g.B.Border.past c.args.border.now in
-    let places = Some legs.first ∷ legs.second ∷ legs.third ∷ [] in
-    let hit : past leg.pulses (c.loop-leg.end +ℤ leg.pulses) ≡ true = search rules in
-    let left = such past places c.loop-leg.end c.loop-leg.leg-index c.leg-item.result c.loop-leg-test.true leg c.in-Some.is hit in
     let counter : to_z w32 (of_z w32 c.args.counter) ≡ c.args.counter = search rules in
-    sym (rw (counter, c.loop-leg.end-is) at c.loop-leg.invariant.rest ∙ left)
+    let pulses : to_z w64 (of_z w64 c.in-Some.leg.pulses) ≡ c.in-Some.leg.pulses = search rules in
+    let flat = c.flatten-leg-items.ensures in
+    let road = gives c.args.legs _ (λ x j b. b.0) c.iter.ensures.rest c.copied.ensures.source flat.source flat.front flat.back flat.done c.into_iter-leg-iterator.ensures.into_iter_gives in
+    let turn = YieldsList-turn road c.loop-leg.yielded _ c.loop-leg.yielded_by _ _ c.in-Some.leg c.in-Some.is c.next.ensures.steps in
+    let past = g.B.Border.past c.args.border.now in
+    let leg = c.in-Some.leg in
+    let end = to_z w64 c.loop-leg.end-bits in
+    let next = goes past c.args.legs _ end leg c.loop-leg.invariant.near turn in
+    let hit : past leg.pulses (end +ℤ leg.pulses) ≡ true = cc next.fits in
+    sym (rw counter at c.loop-leg.invariant.rest ∙ next.left ∙ rw hit)
 
 pub loop-leg-preserved : goal.loop-leg-preserved
 loop-leg-preserved g c =
-    let legs = c.args.legs in
+    let pulses : to_z w64 (of_z w64 c.in-Some.leg.pulses) ≡ c.in-Some.leg.pulses = search rules in
+    let flat = c.flatten-leg-items.ensures in
+    let road = gives c.args.legs _ (λ x j b. b.0) c.iter.ensures.rest c.copied.ensures.source flat.source flat.front flat.back flat.done c.into_iter-leg-iterator.ensures.into_iter_gives in
+    let turn = YieldsList-turn road c.loop-leg.yielded _ c.loop-leg.yielded_by _ _ c.in-Some.leg c.in-Some.is c.next.ensures.steps in
     let past = g.B.Border.past c.args.border.now in
-    let places = Some legs.first ∷ legs.second ∷ legs.third ∷ [] in
-    elim c.match-leg.branch [
-      | in-Some+else-is_past w ↦
-          let leg = w.in-Some.leg in
-          let pulses : to_z w64 (of_z w64 leg.pulses) ≡ leg.pulses = search rules in
-          let fits : to_z w64 (of_z w64 (c.loop-leg.end +ℤ leg.pulses)) ≡ c.loop-leg.end +ℤ leg.pulses = search rules in
-          let miss : past leg.pulses (c.loop-leg.end +ℤ leg.pulses) ≡ false = cc in
-          let left = other past places c.loop-leg.end c.loop-leg.leg-index c.leg-item.result c.loop-leg-test.true leg w.in-Some.is miss in
-          let end : to_z w64 c.match-leg.end-bits ≡ c.loop-leg.end +ℤ leg.pulses = cc in
-          record { rest = c.loop-leg.invariant.rest ∙ rw (c.loop-leg.end-is, end) left; least = omega (arith, ints); most = omega (arith, ints) }
-      | in_default w ↦
-          let end : to_z w64 c.match-leg.end-bits ≡ c.loop-leg.end = cc in
-          let left = none past places c.loop-leg.end c.loop-leg.leg-index c.leg-item.result c.loop-leg-test.true w.in_default.is in
-          record { rest = c.loop-leg.invariant.rest ∙ rw (c.loop-leg.end-is, end) left; least = omega (arith, ints); most = omega (arith, ints) }
-    ]
+    let leg = c.in-Some.leg in
+    let end = to_z w64 c.loop-leg.end-bits in
+    let next = goes past c.args.legs _ end leg c.loop-leg.invariant.near turn in
+    let miss : past leg.pulses (end +ℤ leg.pulses) ≡ false = cc next.fits in
+    rw (pulses, next.fits, length_push c.loop-leg.yielded leg) (record { rest = c.loop-leg.invariant.rest ∙ next.left ∙ rw miss; near = next.near })
+
+pub returns : goal.returns
+returns g c =
+    let counter : to_z w32 (of_z w32 c.args.counter) ≡ c.args.counter = search rules in
+    let flat = c.flatten-leg-items.ensures in
+    let road = gives c.args.legs _ (λ x j b. b.0) c.iter.ensures.rest c.copied.ensures.source flat.source flat.front flat.back flat.done c.into_iter-leg-iterator.ensures.into_iter_gives in
+    let all = YieldsList-end road c.loop-leg.yielded _ c.loop-leg.yielded_by _ _ c.in-None.is c.next.ensures.steps in
+    let left = any_left (g.B.Border.past c.args.border.now) (to_z w64 c.loop-leg.end-bits) in
+    sym (rw counter at c.loop-leg.invariant.rest ∙ at_drop_all left (walked c.args.legs) (length c.loop-leg.yielded) (omega (arith, all.1)))
