@@ -16,6 +16,7 @@ impl RunFormat {
     }
 }
 
+// A match of its own, which for three formats is shorter than a search by their numbers.
 impl TryFrom<i32> for RunFormat {
     type Error = OutOfRange;
 
@@ -31,7 +32,7 @@ impl TryFrom<i32> for RunFormat {
     }
 }
 
-// Clockwise unless the number is below 0.
+// Clockwise unless the number is below 0. No conversion, since only the sign counts.
 pub fn signed_direction(number: i32) -> Direction
     ensures { step result ≡ (if int_lt number (pos 0) then negsuc 0 else pos 1) }
 {

@@ -1,5 +1,5 @@
 // Reading and setting parameters.
-ghost use Rattle.std.specs.Prelude.{◌≡◌, true, false, cond, pos, MatchResult};
+ghost use Rattle.std.specs.Prelude.{◌≡◌, ◌↔◌, true, false, pos, IsOk, MatchResult};
 ghost use Rattle.std.specs.Range.{range_inclusive_start, range_inclusive_end, range_inclusive_exhausted};
 ghost use Rattle.axis.specs.Resolutions.{top};
 ghost use Rattle.settings.specs.Parameters.{row, fits};
@@ -13,6 +13,7 @@ use std::ops::RangeInclusive;
 
 const EIGHT_DIGITS: i32 = 99_999_999;
 
+// Tables, since the users of Settings wanted each parameter as a named field.
 impl Settings {
     pub fn get(&self, parameter: Parameter) -> i32
         ensures { result ≡ value self.now parameter }
@@ -84,7 +85,8 @@ impl Settings {
 
     // Refused where the number is out of the parameter's range, and then nothing changes.
     pub fn set(&mut self, parameter: Parameter, number: i32) -> Result<(), OutOfRange>
-        ensures { MatchResult result (λ _. (fits self.old.resolution parameter number ≡ true) × Put self.old self.new parameter number) (λ _. (fits self.old.resolution parameter number ≡ false) × (self.new ≡ self.old)) }
+        ensures taken { IsOk result ↔ (fits self.old.resolution parameter number ≡ true) }
+        ensures put { MatchResult result (λ _. Put self.old self.new parameter number) (λ _. self.new ≡ self.old) }
     {
         if !self.takes(parameter, number) {
             return Err(OutOfRange);
