@@ -2,7 +2,7 @@
 use crate::heard::{Fields, Setting};
 use codes::host::HostCode;
 
-#[derive(Clone, Copy)]
+#[derive(Clone, Copy, PartialEq, Eq, Debug)]
 pub enum Order {
     Clear,
     Hold,
