@@ -82,7 +82,7 @@ pub host_code : (o : Option HostCode) (n : ℕ) → MatchOption o ((c : HostCode
 host_code None n h = sym (no_host_code n h)
 host_code (Some c) n h = sym (ap host_coded (sym h) ∙ at_host c)
 
-at_parameter : (p : Parameter) → parameter_coded (parameters.code p) ≡ Some p
+pub at_parameter : (p : Parameter) → parameter_coded (parameters.code p) ≡ Some p
 unfolding parameter_coded
 at_parameter L.RunFormat = refl
 at_parameter L.HomeDirection = refl

@@ -1,5 +1,5 @@
 -- Reading the next word takes the first one of the list of words.
-use Rattle.std.proofs.Common.{◌≡◌, ℕ, zero, suc, ◌+◌, ◌<◌, ◌≤◌, true, false, List, [], ◌∷◌, length, Some, None, Ok, Err, Option, Result, refl, ap, ◌∙◌, sym, arith}
+use Rattle.std.proofs.Common.{◌≡◌, ℕ, zero, suc, ◌<◌, ◌≤◌, true, false, List, [], ◌∷◌, length, Some, None, Ok, Err, Option, Result, refl, ap, ◌∙◌, sym, arith}
 use Rattle.std.specs.Result.{result_unwrap_or}
 use Rattle.scan.specs.Runs.{past}
 use Rattle.words.specs.Bytes.{blank, letter}

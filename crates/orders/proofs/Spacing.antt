@@ -1,6 +1,6 @@
 -- One blank more, word by word.
-use Rattle.std.proofs.Common.{◌≡◌, ℕ, zero, suc, ◌-◌, ◌≤◌, Bool, true, false, cond, eqb, List, [], ◌∷◌, length, get_or, drop, is_some, Some, None, Option, sym, refl, ap, ◌∙◌, le_trans, arith, length-drop}
-use Rattle.scan.specs.Runs.{run, past}
+use Rattle.std.proofs.Common.{◌≡◌, ℕ, zero, suc, ◌-◌, ◌≤◌, Bool, true, false, cond, eqb, List, [], ◌∷◌, length, get_or, drop, is_some, Some, None, Option, sym, refl, ap, ◌∙◌, arith}
+use Rattle.scan.specs.Runs.{past}
 use Rattle.scan.specs.Numbers.{digit}
 use Rattle.words.specs.Bytes.{blank, letter}
 use Rattle.words.specs.Words.{Spelled, after_sign, takes_sign, code_of, number_at, sign_of, digits_at, word_of, behind}

@@ -1,5 +1,5 @@
 -- What is wrong with a word, and what it says.
-use Rattle.std.specs.Prelude.{ℕ, Bool, true, false, cond, not, ◌&&◌, ◌||◌, length, ℤ, pos, neg_ℤ, is_some, is_none, Some, None, Ok, Err, Option, Result, ◌==◌, nat_le}
+use Rattle.std.specs.Prelude.{ℕ, Bool, false, cond, not, ◌&&◌, ◌||◌, length, ℤ, pos, neg_ℤ, is_some, is_none, Some, None, Ok, Err, Option, Result, ◌==◌, nat_le}
 use Rattle.codes.specs.Host.{transfers}
 use Rattle.codes.specs.declared.host.HostCode.{HostCode}
 use Rattle.scan.specs.Fields.{kept}

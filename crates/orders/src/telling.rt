@@ -10,11 +10,7 @@ use settings::values::Settings;
 use words::reader::Reader;
 
 // Up to the first word that something is wrong with; behind `!` or not.
-pub(crate) fn told(
-    reader: Reader<'_>,
-    bang: bool,
-    settings: &Settings,
-) -> Result<Heard, WordFault>
+pub(crate) fn told(reader: Reader<'_>, bang: bool, settings: &Settings) -> Result<Heard, WordFault>
     ensures { result ≡ heard_of settings.now.resolution bang (words reader.entry.length reader.entry.rest.now) }
 {
     let mut hearing = Hearing::new(reader, bang);

@@ -4,7 +4,7 @@ ghost use Rattle.words.specs.Words.{spelled};
 ghost use Rattle.orders.specs.Meanings.{missing, foreign, any_field, unnamed, is_transfer, takes, outside};
 
 use crate::heard::{Fields, Heard};
-use crate::numbers::{HOME_DIRECTION, data};
+use crate::numbers::{data, is_home};
 use crate::tables::{host_code, parameter, program_code};
 use codes::host::HostCode;
 use scan::field::Field;
@@ -33,7 +33,7 @@ pub fn is_missing(word: Word<'_>) -> bool
             if code.is_empty() {
                 return true;
             }
-            if code.value(Field::Code) == HOME_DIRECTION {
+            if is_home(code) {
                 return sign.is_none();
             }
             digits.is_empty()
