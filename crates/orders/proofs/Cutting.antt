@@ -2,7 +2,8 @@
 use Rattle.std.proofs.Common.{◌≡◌, ℕ, zero, suc, ◌+◌, Bool, true, false, cond, ◌||◌, eqb, List, [], ◌∷◌, get_or, take, drop, sym, refl, ap, ◌∙◌, arith, drop-drop}
 use Rattle.std.proofs.lemmas.List.{drop-take}
 use Rattle.scan.specs.Runs.{run, past}
-use Rattle.words.specs.Bytes.{blank, digit}
+use Rattle.scan.specs.Numbers.{digit}
+use Rattle.words.specs.Bytes.{blank}
 use Rattle.words.specs.Words.{after_sign, takes_sign, number_at, digits_at, behind}
 use Rattle.orders.proofs.Widening.{split, longer}
 

@@ -7,7 +7,8 @@ use Rattle.words.specs.Checking.{first_bad}
 use Rattle.orders.proofs.Outcomes.{none_some, same_some}
 use Rattle.orders.proofs.Widening.{split, past_on, past_at}
 use Rattle.words.proofs.Scans.{at_end}
-use Rattle.orders.proofs.Spacing.{bad_from, goes_on, bad_here, shorter, behind_shorter}
+use Rattle.orders.proofs.Spacing.{bad_from, goes_on, bad_here}
+use Rattle.words.proofs.Lengths.{shorter, behind_shorter}
 use Rattle.orders.proofs.Cutting.{cut, past_cutter, behind_cutter}
 
 -- the byte at this index of bs opens no word, and cut before it bs has none that does not

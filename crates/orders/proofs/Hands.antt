@@ -1,21 +1,21 @@
 -- Reading the next word takes the first one of the list of words.
-use Rattle.std.proofs.Common.{◌≡◌, ℕ, zero, suc, ◌+◌, ◌-◌, ◌<◌, true, false, cond, eqb, List, [], ◌∷◌, length, Some, None, Ok, Err, Option, sym, refl, ap, ◌∙◌, subst, arith}
+use Rattle.std.proofs.Common.{◌≡◌, ℕ, zero, suc, ◌<◌, ◌≤◌, true, false, List, [], ◌∷◌, length, Some, None, Ok, Err, Option, Result, refl, ap, ◌∙◌, sym, arith}
+use Rattle.std.specs.Result.{result_unwrap_or}
 use Rattle.scan.specs.Runs.{past}
-use Rattle.scan.specs.Numbers.{digits}
-use Rattle.scan.proofs.Few.{span_digits}
 use Rattle.words.specs.Bytes.{blank, letter}
-use Rattle.words.specs.Words.{Spelled, spelled, word_of, behind, digits_at}
+use Rattle.words.specs.Words.{Spelled, spelled, word_of, behind}
 use Rattle.words.specs.Reading.{opening, body, place_in, Reads}
-use Rattle.words.specs.Listing.{listed}
+use Rattle.words.specs.Listing.{listed, words}
 use Rattle.words.specs.declared.word.Word.{Word}
 use Rattle.words.specs.declared.word.ByteFault.{ByteFault}
+use Rattle.words.proofs.Lengths.{word_taken}
+use Rattle.words.proofs.Lists.{no_more, all_listed}
 use Rattle.words.proofs.Scans.{some_there}
-use Rattle.orders.specs.Lines.{Handed}
-
-pub no_more : (k n : ℕ) (bs : List ℕ) → past blank bs ≡ [] → listed k n bs ≡ []
-no_more zero n bs e = refl
-no_more (suc k) n bs e =
-    ap (λ (xs : List ℕ). cond (eqb (length xs) 0) [] (cond (letter (opening bs)) (word_of (place_in n bs) (opening bs) (body bs) ∷ listed k n (behind (opening bs) (body bs))) [])) e
+use Rattle.orders.specs.Lines.{heard_on, Handed}
+use Rattle.orders.specs.Hearings.{in_all, Hears}
+use Rattle.orders.specs.declared.heard.Heard.{Heard}
+use Rattle.orders.specs.declared.hearing.Hearing.{Hearing}
+use Rattle.orders.specs.declared.fault.WordFault.{WordFault}
 
 at_bad : (k n : ℕ) (bs : List ℕ) → 0 < length (past blank bs) → letter (opening bs) ≡ false → listed k n bs ≡ []
 at_bad zero n bs some opens = refl
@@ -25,19 +25,34 @@ one_word : (k n : ℕ) (bs after : List ℕ) (w : Spelled) → 0 < length (past 
     → listed (suc k) n bs ≡ w ∷ listed k n after
 one_word k n bs after w some opens spelt e = rw (some_there (length (past blank bs)) some, opens, spelt, e)
 
-pub handed : (n : ℕ) (bs after : List ℕ) (o : Option Word) → Reads n bs after (Ok o) → Handed n bs after o
-handed n bs after None r = λ k. no_more k n bs r.0
-handed n bs after (Some w) r = (
-  subst (λ s. digits s.digits ≡ true) (sym r.2) (span_digits (digits_at (opening bs) (body bs))),
-  λ k. one_word k n bs after (spelled w) r.0 r.1 r.2 r.3,
-)
+pub handed : (n : ℕ) (bs after : List ℕ) (r : Result (Option Word) ByteFault) → Reads n bs after r → Handed n bs after (result_unwrap_or r None)
+handed n bs after (Ok None) r = λ k. no_more k n bs r.0
+handed n bs after (Ok (Some w)) r = (word_taken bs after r.0 r.3, λ k. one_word k n bs after (spelled w) r.0 r.1 r.2 r.3)
+handed n bs after (Err e) r = λ k. at_bad k n bs r.0 r.1
 
-pub none_handed : (n : ℕ) (bs after : List ℕ) (e : ByteFault) → Reads n bs after (Err e) → Handed n bs after None
-none_handed n bs after e r = λ k. at_bad k n bs r.0 r.1
+-- the words of what is left are the one that was handed and those that are left then
+pub first_left : (n : ℕ) (bs after : List ℕ) (w : Word) → Handed n bs after (Some w) → words n bs ≡ spelled w ∷ words n after
+first_left n bs after w h =
+    let less = h.0 in
+    all_listed (length bs) (suc (length bs)) n bs (omega arith) (omega arith) ∙ h.1 (length bs)
+    ∙ ap (λ ws. spelled w ∷ ws) (all_listed (length bs) (length after) n after (omega arith) (omega arith))
 
--- the first of the words that are left after t of m
-pub first_left : (m t n l : ℕ) (bs after : List ℕ) (w : Spelled) → t < m → l ≡ n → ((k : ℕ) → listed (suc k) l bs ≡ w ∷ listed k l after)
-    → listed (m - t) n bs ≡ w ∷ listed (m - (t + 1)) n after
-first_left m t n l bs after w h e hands =
-    let one : m - t ≡ suc (m - (t + 1)) = omega arith in
-    subst (λ z. listed (m - t) z bs ≡ w ∷ listed (m - (t + 1)) z after) e (ap (λ k. listed k l bs) one ∙ hands (m - (t + 1)))
+-- all that is heard to the end, with what was
+abbrev pub to_the_end : ℕ → Hearing → Result Heard WordFault
+to_the_end R h = in_all R (length h.reader.rest.now) h
+
+module _ (R : ℕ) (before after : Hearing) where
+  in_full : (k : ℕ) (h : Hearing) → length h.reader.rest.now ≤ k → in_all R k h ≡ to_the_end R h
+  in_full k h l = ap (heard_on R h.named h.bang h.heard) (all_listed k (length h.reader.rest.now) h.reader.length h.reader.rest.now l (omega arith))
+
+  pub goes_on : Hears R before after (Ok true) → to_the_end R after ≡ to_the_end R before
+  goes_on h =
+      let k = length before.reader.rest.now in
+      let less = h.0 in
+      sym (in_full k after (omega arith)) ∙ h.1 k ∙ in_full (suc k) before (omega arith)
+
+  pub ends : Hears R before after (Ok false) → Ok after.heard ≡ to_the_end R before
+  ends h = ap Ok h.0 ∙ sym (h.1 (length before.reader.rest.now))
+
+  pub breaks : (e : WordFault) → Hears R before after (Err e) → Err e ≡ to_the_end R before
+  breaks e h = let k = length before.reader.rest.now in sym (h k) ∙ in_full (suc k) before (omega arith)

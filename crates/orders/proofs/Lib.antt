@@ -4,6 +4,7 @@ pub mod Cutting
 pub mod FirstByte
 pub mod FirstByteLaw
 pub mod Hands
+pub mod Home
 pub mod Naming
 pub mod Narrowing
 pub mod Outcomes

@@ -12,7 +12,7 @@ use Rattle.words.specs.Reading.{opening, body, place_in}
 use Rattle.words.specs.Checking.{first_bad}
 use Rattle.words.specs.Listing.{listed, words}
 use Rattle.words.specs.declared.word.Sign.{Sign}
-use Rattle.words.specs.declared.word.Sign.TheVariants.{Absent, Plus, Minus}
+use Rattle.words.specs.declared.word.Sign.TheVariants.{Plus, Minus}
 use Rattle.orders.specs.Meanings.{is_x, is_f, signed, number, feed, any_field, missing, foreign, unnamed, outside, hear, nothing, meaning}
 use Rattle.orders.specs.Lines.{named, and_then, heard_on, heard_of}
 use Rattle.orders.specs.Orders.{stored, done, set_or_done, order, asked, transfer, unless_bad, alone, of_words, of_transfer, reading}
@@ -43,11 +43,11 @@ listed_digits (suc k) n bs =
     (choose AllDigits (letter (opening bs)) (word_of (place_in n bs) (opening bs) (body bs) ∷ listed k n (behind (opening bs) (body bs))) []
     (span_digits (digits_at (opening bs) (body bs)), listed_digits k n (behind (opening bs) (body bs))) tt)
 
-size : (s : Sign) (n : ℕ) → nat_abs (signed s n) ≡ n
-size Absent n = refl
-size Plus n = refl
-size Minus zero = refl
-size Minus (suc n) = refl
+size : (s : Option Sign) (n : ℕ) → nat_abs (signed s n) ≡ n
+size None n = refl
+size (Some Plus) n = refl
+size (Some Minus) zero = refl
+size (Some Minus) (suc n) = refl
 
 -- a word keeps the fields in their widths
 abbrev Kept : Heard → Type 0

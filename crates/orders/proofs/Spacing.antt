@@ -1,15 +1,16 @@
 -- One blank more, word by word.
-use Rattle.std.proofs.Common.{◌≡◌, ℕ, zero, suc, ◌-◌, ◌≤◌, Bool, true, false, cond, eqb, List, [], ◌∷◌, length, get_or, drop, is_some, Some, None, Option, sym, refl, ap, ◌∙◌, le_trans, arith, length-drop}
-use Rattle.scan.specs.Runs.{run, past}
-use Rattle.words.specs.Bytes.{blank, digit, letter}
+use Rattle.std.proofs.Common.{◌≡◌, ℕ, zero, suc, ◌-◌, ◌≤◌, Bool, true, false, cond, eqb, List, [], ◌∷◌, length, get_or, drop, is_some, Some, None, Option, sym, refl, ap, ◌∙◌, arith}
+use Rattle.scan.specs.Runs.{past}
+use Rattle.scan.specs.Numbers.{digit}
+use Rattle.words.specs.Bytes.{blank, letter}
 use Rattle.words.specs.Words.{Spelled, after_sign, takes_sign, code_of, number_at, sign_of, digits_at, word_of, behind}
 use Rattle.words.specs.Checking.{first_bad}
 use Rattle.words.specs.Listing.{listed}
 use Rattle.words.specs.declared.word.Sign.{Sign}
-use Rattle.words.specs.declared.word.Sign.TheVariants.{Absent}
 use Rattle.orders.specs.Laws.{Wider}
 use Rattle.words.proofs.Scans.{some_there, at_end}
-use Rattle.orders.proofs.Hands.{no_more}
+use Rattle.words.proofs.Lengths.{shorter, behind_shorter}
+use Rattle.words.proofs.Lists.{no_more}
 use Rattle.orders.proofs.Widening.{Tight, split, tight, wider_tight, wider_past, same_span, same_sign, wider_behind_sign}
 
 -- a word without its place
@@ -19,33 +20,6 @@ bare w = record { letter = w.letter; place = 0; code = w.code; sign = w.sign; di
 abbrev pub bares : List Spelled → List Spelled
 bares [] = []
 bares (w ∷ ws) = bare w ∷ bares ws
-
--- what stands behind a word is not longer
-pub shorter : (kind : ℕ → Bool) (xs : List ℕ) → length (past kind xs) ≤ length xs
-shorter kind xs = omega (arith, length-drop (run kind xs) xs)
-
-either : (k : Bool) (m : ℕ) (xs ys : List ℕ) → length xs ≤ m → length ys ≤ m → length (cond k xs ys) ≤ m
-either true m xs ys h l = h
-either false m xs ys h l = l
-
-less_one : (xs : List ℕ) → length (drop 1 xs) ≤ length xs
-less_one xs = omega (arith, length-drop 1 xs)
-
-le_same : (m : ℕ) → m ≤ m
-le_same m = omega arith
-
-number_shorter : (c : ℕ) (xs : List ℕ) → length (number_at c xs) ≤ length xs
-number_shorter c xs = either (eqb c 76) (length xs) (past blank (past digit xs)) xs (le_trans (shorter blank (past digit xs)) (shorter digit xs)) (le_same (length xs))
-
-sign_shorter : (xs : List ℕ) → length (after_sign xs) ≤ length xs
-sign_shorter xs = either _ (length xs) (drop 1 xs) xs (less_one xs) (le_same (length xs))
-
-digits_shorter : (c : ℕ) (xs : List ℕ) → length (digits_at c xs) ≤ length xs
-digits_shorter c xs =
-    either (takes_sign c) (length xs) (after_sign (number_at c xs)) (number_at c xs) (le_trans (sign_shorter (number_at c xs)) (number_shorter c xs)) (number_shorter c xs)
-
-pub behind_shorter : (c : ℕ) (xs : List ℕ) → length (behind c xs) ≤ length xs
-behind_shorter c xs = le_trans (shorter digit (digits_at c xs)) (digits_shorter c xs)
 
 module _ (c : ℕ) (xs ys : List ℕ) (w : Wider xs ys) where
   wider_number : Wider (number_at c xs) (number_at c ys)
@@ -69,7 +43,7 @@ module _ (c : ℕ) (xs ys : List ℕ) (w : Wider xs ys) where
   same_code = ap (λ ds. cond (eqb c 76) ds []) (same_span xs ys w)
 
   same_sign_of : sign_of c ys ≡ sign_of c xs
-  same_sign_of = ap (λ (s : Sign). cond (takes_sign c) s Absent) (same_sign (number_at c xs) (number_at c ys) wider_number)
+  same_sign_of = ap (λ (s : Option Sign). cond (takes_sign c) s None) (same_sign (number_at c xs) (number_at c ys) wider_number)
 
   -- the same word, but for its place
   pub same_word : (p q : ℕ) → bare (word_of q c ys) ≡ bare (word_of p c xs)

@@ -14,7 +14,8 @@ use Rattle.orders.specs.declared.order.Order.{Order}
 use Rattle.orders.specs.declared.fault.WordFault.{WordFault}
 use Rattle.orders.proofs.Outcomes.{judged}
 use Rattle.orders.proofs.Widening.{Tight}
-use Rattle.orders.proofs.Spacing.{bare, bares, shorter, same_words, same_bad}
+use Rattle.orders.proofs.Spacing.{bare, bares, same_words, same_bad}
+use Rattle.words.proofs.Lengths.{shorter}
 
 judged_bare : (a b c d : Bool) (g : Heard) (p : ℕ) → judged a b c d g 0 ≡ unplaced (judged a b c d g p)
 judged_bare true b c d g p = refl

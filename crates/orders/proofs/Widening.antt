@@ -1,10 +1,11 @@
 -- One blank more leaves the words as they are.
-use Rattle.std.proofs.Common.{◌≡◌, ℕ, suc, ◌+◌, Bool, true, false, cond, ◌||◌, eqb, ◌⊎◌, List, [], ◌∷◌, take, drop, sym, refl, ap, ◌∙◌, subst, inl, inr, arith}
+use Rattle.std.proofs.Common.{◌≡◌, ℕ, suc, ◌+◌, Bool, true, false, cond, ◌||◌, eqb, ◌⊎◌, List, [], ◌∷◌, take, drop, Some, None, sym, refl, ap, ◌∙◌, subst, inl, inr, arith}
 use Rattle.std.proofs.lemmas.Bool.Decides.{nat_tests}
 use Rattle.scan.specs.Runs.{run, span, past}
-use Rattle.words.specs.Bytes.{blank, digit}
+use Rattle.scan.specs.Numbers.{digit}
+use Rattle.words.specs.Bytes.{blank}
 use Rattle.words.specs.Words.{sign_at, after_sign}
-use Rattle.words.specs.declared.word.Sign.TheVariants.{Absent, Plus, Minus}
+use Rattle.words.specs.declared.word.Sign.TheVariants.{Plus, Minus}
 use Rattle.orders.specs.Laws.{Wider}
 
 pub wider_same : (xs : List ℕ) → Wider xs xs
@@ -99,7 +100,7 @@ pub same_sign : (xs ys : List ℕ) → Wider xs ys → sign_at ys ≡ sign_at xs
 same_sign [] ys (inl e) = ap sign_at e
 same_sign [] ys (inr e) = ap sign_at e
 same_sign (x ∷ xs) [] w = elim w [ ]
-same_sign (x ∷ xs) (y ∷ ys) w = ap (λ b. cond (eqb b 43) Plus (cond (eqb b 45) Minus Absent)) (sym w.0)
+same_sign (x ∷ xs) (y ∷ ys) w = ap (λ b. cond (eqb b 43) (Some Plus) (cond (eqb b 45) (Some Minus) None)) (sym w.0)
 
 no_sign : (x : ℕ) → (eqb x 43 || eqb x 45) ≡ true → x ≡ 32 → ⊥
 no_sign x h e = grind (arith, nat_tests)

@@ -1,5 +1,5 @@
 -- Words heard one after the other: what is left says the rest.
-use Rattle.std.specs.Prelude.{◌≡◌, ℕ, suc, Bool, true, false, List, Ok, Err, Result}
+use Rattle.std.specs.Prelude.{◌≡◌, ℕ, suc, ◌<◌, Bool, true, false, List, length, Ok, Err, Result}
 use Rattle.words.specs.Listing.{listed, words}
 use Rattle.orders.specs.Meanings.{nothing}
 use Rattle.orders.specs.Lines.{named, heard_on}
@@ -18,8 +18,9 @@ pub record Begins (bs : List ℕ) (n : ℕ) (bang : Bool) (h : Hearing) : Type 0
 abbrev pub in_all : ℕ → ℕ → Hearing → Result Heard WordFault
 in_all R k h = heard_on R h.named h.bang h.heard (listed k h.reader.length h.reader.rest.now)
 
--- one word was heard, or there was none, or something was wrong with it
+-- one word was heard, so that less is left, or there was none, or something was wrong with it
 abbrev pub Hears : ℕ → Hearing → Hearing → Result Bool WordFault → Type 0
-Hears R before after (Ok true) = (k : ℕ) → in_all R k after ≡ in_all R (suc k) before
+Hears R before after (Ok true) =
+    (length after.reader.rest.now < length before.reader.rest.now) × ((k : ℕ) → in_all R k after ≡ in_all R (suc k) before)
 Hears R before after (Ok false) = (after.heard ≡ before.heard) × ((k : ℕ) → in_all R k before ≡ Ok before.heard)
 Hears R before after (Err e) = (k : ℕ) → in_all R (suc k) before ≡ Err e

@@ -1,6 +1,5 @@
 -- The words of a line, heard one after the other.
-use Rattle.std.specs.Prelude.{◌≡◌, ℕ, suc, Bool, true, false, ◌||◌, List, [], ◌∷◌, Some, None, Ok, Err, Option, Result}
-use Rattle.scan.specs.Numbers.{digits}
+use Rattle.std.specs.Prelude.{◌≡◌, ℕ, suc, ◌<◌, Bool, false, ◌||◌, List, [], ◌∷◌, length, Some, None, Ok, Err, Option, Result}
 use Rattle.words.specs.Words.{Spelled, spelled}
 use Rattle.words.specs.Listing.{listed}
 use Rattle.words.specs.declared.word.Word.{Word}
@@ -25,7 +24,7 @@ heard_on R line bang h (w ∷ ws) = and_then (meaning R line bang h w) (λ g. he
 abbrev pub heard_of : ℕ → Bool → List Spelled → Result Heard WordFault
 heard_of R bang ws = heard_on R (named ws) bang nothing ws
 
--- the first word of what is left of a line of n bytes, and what is left then
+-- the first word of what is left of a line of n bytes, and what is left then, which is less
 abbrev pub Handed : ℕ → List ℕ → List ℕ → Option Word → Type 0
 Handed n bs after None = (k : ℕ) → listed k n bs ≡ []
-Handed n bs after (Some w) = (digits (spelled w).digits ≡ true) × ((k : ℕ) → listed (suc k) n bs ≡ spelled w ∷ listed k n after)
+Handed n bs after (Some w) = (length after < length bs) × ((k : ℕ) → listed (suc k) n bs ≡ spelled w ∷ listed k n after)

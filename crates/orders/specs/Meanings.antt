@@ -1,5 +1,5 @@
 -- What is wrong with a word, and what it says.
-use Rattle.std.specs.Prelude.{ℕ, Bool, true, false, cond, not, ◌&&◌, ◌||◌, length, ℤ, pos, neg_ℤ, is_some, Some, None, Ok, Err, Option, Result, ◌==◌, nat_le}
+use Rattle.std.specs.Prelude.{ℕ, Bool, false, cond, not, ◌&&◌, ◌||◌, length, ℤ, pos, neg_ℤ, is_some, is_none, Some, None, Ok, Err, Option, Result, ◌==◌, nat_le}
 use Rattle.codes.specs.Host.{transfers}
 use Rattle.codes.specs.declared.host.HostCode.{HostCode}
 use Rattle.scan.specs.Fields.{kept}
@@ -9,7 +9,7 @@ use Rattle.settings.specs.Parameters.{fits}
 use Rattle.settings.specs.declared.parameter.Parameter.{Parameter}
 use Rattle.words.specs.Words.{Spelled}
 use Rattle.words.specs.declared.word.Sign.{Sign}
-use Rattle.words.specs.declared.word.Sign.TheVariants.{Absent, Plus, Minus}
+use Rattle.words.specs.declared.word.Sign.TheVariants.{Plus, Minus}
 use Rattle.orders.specs.Tables.{program_coded, host_coded, parameter_coded}
 use Rattle.orders.specs.declared.heard.Heard.{Heard}
 use Rattle.orders.specs.declared.heard.Fields.{Fields}
@@ -36,16 +36,11 @@ is_l w = w.letter == 76
 abbrev pub is_h : Spelled → Bool
 is_h w = w.letter == 72
 
-abbrev pub absent : Sign → Bool
-absent Absent = true
-absent Plus = false
-absent Minus = false
-
 -- a number by its sign; −0 is +0
-abbrev pub signed : Sign → ℕ → ℤ
-signed Absent n = pos n
-signed Plus n = pos n
-signed Minus n = neg_ℤ (pos n)
+abbrev pub signed : Option Sign → ℕ → ℤ
+signed None n = pos n
+signed (Some Plus) n = pos n
+signed (Some Minus) n = neg_ℤ (pos n)
 
 -- the numbers that a word's digits give: too many digits lose the first
 abbrev pub line_number : Spelled → ℕ
@@ -74,7 +69,7 @@ data_of w = cond (home w) (signed w.sign 1) (number w)
 -- 5: digits missing, of L its code or its data; of the home direction the sign
 abbrev pub missing : Spelled → Bool
 missing w =
-    cond (is_l w) (length w.code == 0 || cond (home w) (absent w.sign) (length w.digits == 0)) (length w.digits == 0)
+    cond (is_l w) (length w.code == 0 || cond (home w) (is_none w.sign) (length w.digits == 0)) (length w.digits == 0)
 
 abbrev pub any_field : Fields → Bool
 any_field f = is_some f.code || (is_some f.x || is_some f.feed)

@@ -11,4 +11,5 @@ use Rattle.orders.specs.declared.fault.WordFault.{WordFault}
 abbrev pub Opened : ℕ → List ℕ → Result Start WordFault → Type 0
 Opened R bs (Err e) = reading R bs ≡ Err e
 Opened R bs (Ok (Order o)) = (reading R bs ≡ Ok o) × (wordless o ≡ true)
-Opened R bs (Ok (Words rest)) = (rest.now ≡ bs) × (reading R bs ≡ and_then (heard_of R false (words (length bs) bs)) (λ h. Ok (order h)))
+Opened R bs (Ok (Words reader)) =
+    (reader.rest.now ≡ bs) × (reader.length ≡ length bs) × (reading R bs ≡ and_then (heard_of R false (words (length bs) bs)) (λ h. Ok (order h)))

@@ -3,6 +3,7 @@ ghost use Rattle.std.specs.Prelude.{◌≡◌};
 ghost use Rattle.orders.specs.Faults.{number_of, place_of, layer_of};
 ghost use Rattle.orders.specs.declared.fault.WordFault.TheVariants.{Byte};
 
+use std::fmt;
 use words::word::ByteFault;
 
 // The places are those of the words' letters, counted from 1.
@@ -73,5 +74,11 @@ impl WordFault {
             WordFault::Byte(_) => Layer::Bytes,
             _ => Layer::Words,
         }
+    }
+}
+
+impl fmt::Display for WordFault {
+    fn fmt<W: fmt::Write>(&self, f: &mut fmt::Formatter<W>) -> fmt::Result {
+        write!(f, "refused {} at {}", self.number(), self.place())
     }
 }

@@ -1,6 +1,5 @@
 // One word after the other, as it is heard.
-ghost use Rattle.std.specs.Prelude.{◌≡◌, true, None};
-ghost use Rattle.scan.specs.Numbers.{digits as all_digits};
+ghost use Rattle.std.specs.Prelude.{◌≡◌, None};
 ghost use Rattle.words.specs.Words.{spelled};
 ghost use Rattle.orders.specs.Meanings.{hear, meaning, setting, nothing};
 
@@ -19,10 +18,7 @@ use words::word::Word;
 fn setting(parameter: Option<Parameter>, number: i32) -> Option<Setting>
     ensures { result ≡ setting parameter number }
 {
-    match parameter {
-        Some(parameter) => Some(Setting { parameter, number }),
-        None => None,
-    }
+    parameter.map(|parameter| Setting { parameter, number })
 }
 
 impl Heard {
@@ -43,14 +39,13 @@ impl Heard {
 
     // What was heard, with this word.
     fn hear(&mut self, word: Word<'_>)
-        requires { all_digits (spelled word).digits ≡ true }
         ensures { self.new ≡ hear self.old (spelled word.entry) }
     {
         match word {
-            Word::N { digits, .. } => self.line = Some(Field::Line.value(digits)),
-            Word::G { digits, .. } => self.fields.code = ProgramCode::coded(Field::Code.value(digits)),
+            Word::N { digits, .. } => self.line = Some(digits.value(Field::Line)),
+            Word::G { digits, .. } => self.fields.code = ProgramCode::coded(digits.value(Field::Code)),
             Word::X { sign, digits, .. } => self.fields.x = Some(number(sign, digits)),
-            Word::F { digits, .. } => self.fields.feed = Some(Field::Feed.value(digits)),
+            Word::F { digits, .. } => self.fields.feed = Some(digits.value(Field::Feed)),
             Word::L {
                 code,
                 sign,
@@ -58,9 +53,9 @@ impl Heard {
                 ..
             } => {
                 let number = data(code, sign, digits);
-                self.setting = setting(Parameter::coded(Field::Code.value(code)), number);
+                self.setting = setting(Parameter::coded(code.value(Field::Code)), number);
             }
-            Word::H { digits, .. } => self.host = HostCode::coded(Field::Code.value(digits)),
+            Word::H { digits, .. } => self.host = HostCode::coded(digits.value(Field::Code)),
         }
     }
 
@@ -72,7 +67,6 @@ impl Heard {
         bang: bool,
         settings: &Settings,
     ) -> Result<Heard, WordFault>
-        requires { all_digits (spelled word).digits ≡ true }
         ensures { result ≡ meaning settings.now.resolution named bang self (spelled word.entry) }
     {
         let place = word.place();

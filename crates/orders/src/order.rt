@@ -1,8 +1,9 @@
 // What a line orders.
 use crate::heard::{Fields, Setting};
 use codes::host::HostCode;
+use std::fmt;
 
-#[derive(Clone, Copy)]
+#[derive(Clone, Copy, PartialEq, Eq, Debug)]
 pub enum Order {
     Clear,
     Hold,
@@ -16,4 +17,25 @@ pub enum Order {
     Set { setting: Setting },
     // Does this, with the pointer set to the line first where there is one.
     Act { line: Option<u32>, code: HostCode },
+}
+
+impl fmt::Display for Order {
+    fn fmt<W: fmt::Write>(&self, f: &mut fmt::Formatter<W>) -> fmt::Result {
+        match *self {
+            Order::Clear => f.write_str("clear"),
+            Order::Hold => f.write_str("hold"),
+            Order::Stop => f.write_str("stop"),
+            Order::Transfer { code } => write!(f, "transfer H{:02}", code.code()),
+            Order::Point { line } => write!(f, "set the pointer to line {line}"),
+            Order::Store { line, fields } => match line {
+                Some(line) => write!(f, "store at line {line}:{fields}"),
+                None => write!(f, "store at the pointer's line:{fields}"),
+            },
+            Order::Set { setting } => write!(f, "{setting}"),
+            Order::Act { line, code } => match line {
+                Some(line) => write!(f, "do H{:02} with line {line}", code.code()),
+                None => write!(f, "do H{:02}", code.code()),
+            },
+        }
+    }
 }

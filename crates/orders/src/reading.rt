@@ -12,14 +12,14 @@ use crate::telling::told;
 use settings::values::Settings;
 use words::bytes::check;
 use words::kind::{Line, kind};
+use words::reader::Reader;
 
-fn transfer_of(rest: &[u8], length: usize, settings: &Settings) -> Result<Order, WordFault>
-    ensures order { result ≡ of_transfer settings.now.resolution length rest.now }
+fn transfer_of(reader: Reader<'_>, settings: &Settings) -> Result<Order, WordFault>
+    ensures order { result ≡ of_transfer settings.now.resolution reader.entry.length reader.entry.rest.now }
     ensures wordless { IfOk result (λ o. wordless o ≡ true) }
 {
-    check(rest, length)?;
-    let heard = told(rest, length, true, settings)?;
-    heard.transfer()
+    check(reader)?;
+    told(reader, true, settings)?.transfer()
 }
 
 // Looks at a line's bytes; words are left to be heard.
@@ -30,10 +30,10 @@ pub fn open<'a>(line: &'a [u8], settings: &Settings) -> Result<Start<'a>, WordFa
         Line::Clear => Ok(Start::Order(Order::Clear)),
         Line::Hold => Ok(Start::Order(Order::Hold)),
         Line::Stop => Ok(Start::Order(Order::Stop)),
-        Line::Transfer { rest } => Ok(Start::Order(transfer_of(rest, line.len(), settings)?)),
-        Line::Words { rest } => {
-            check(rest, line.len())?;
-            Ok(Start::Words { rest })
+        Line::Transfer { reader } => Ok(Start::Order(transfer_of(reader, settings)?)),
+        Line::Words { reader } => {
+            check(reader)?;
+            Ok(Start::Words { reader })
         }
     }
 }
@@ -43,10 +43,7 @@ fn by_kind(line: &[u8], settings: &Settings) -> Result<Order, WordFault>
 {
     match open(line, settings)? {
         Start::Order(order) => Ok(order),
-        Start::Words { rest } => {
-            let heard = told(rest, line.len(), false, settings)?;
-            Ok(heard.order())
-        }
+        Start::Words { reader } => Ok(told(reader, false, settings)?.order()),
     }
 }
 

@@ -1,9 +1,10 @@
 // A line of which no byte is wrong.
 use crate::order::Order;
+use words::reader::Reader;
 
 // An order already, or words that are still to be heard.
-#[derive(Clone, Copy)]
+#[derive(Clone, Copy, PartialEq, Eq, Debug)]
 pub enum Start<'a> {
     Order(Order),
-    Words { rest: &'a [u8] },
+    Words { reader: Reader<'a> },
 }

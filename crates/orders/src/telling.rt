@@ -7,21 +7,13 @@ use crate::fault::WordFault;
 use crate::heard::Heard;
 use crate::hearing::Hearing;
 use settings::values::Settings;
+use words::reader::Reader;
 
 // Up to the first word that something is wrong with; behind `!` or not.
-pub(crate) fn told(
-    rest: &[u8],
-    length: usize,
-    bang: bool,
-    settings: &Settings,
-) -> Result<Heard, WordFault>
-    ensures { result ≡ heard_of settings.now.resolution bang (words length rest.now) }
+pub(crate) fn told(reader: Reader<'_>, bang: bool, settings: &Settings) -> Result<Heard, WordFault>
+    ensures { result ≡ heard_of settings.now.resolution bang (words reader.entry.length reader.entry.rest.now) }
 {
-    let mut hearing = Hearing::new(rest, length, bang);
-    for turn in 0..rest.len() {
-        if !hearing.word(settings)? {
-            return Ok(hearing.heard());
-        }
-    }
+    let mut hearing = Hearing::new(reader, bang);
+    while hearing.word(settings)? {}
     Ok(hearing.heard())
 }

@@ -1,31 +1,20 @@
 // What can be wrong with a word.
-ghost use Rattle.std.specs.Prelude.{◌≡◌, true};
+ghost use Rattle.std.specs.Prelude.{◌≡◌};
 ghost use Rattle.words.specs.Words.{spelled};
-ghost use Rattle.scan.specs.Numbers.{digits};
-ghost use Rattle.orders.specs.Meanings.{missing, foreign, any_field, absent, unnamed, is_transfer, takes, outside};
+ghost use Rattle.orders.specs.Meanings.{missing, foreign, any_field, unnamed, is_transfer, takes, outside};
 
 use crate::heard::{Fields, Heard};
-use crate::numbers::{HOME_DIRECTION, data};
+use crate::numbers::{data, is_home};
 use codes::coded::Coded;
 use codes::host::HostCode;
 use codes::program::ProgramCode;
 use scan::field::Field;
 use settings::parameter::Parameter;
 use settings::values::Settings;
-use words::word::{Sign, Word};
+use words::word::Word;
 
 // Program lines count from 1 to this.
 const LINES: u32 = 400;
-
-fn is_absent(sign: Sign) -> bool
-    ensures { result ≡ absent sign }
-{
-    match sign {
-        Sign::Absent => true,
-        Sign::Plus => false,
-        Sign::Minus => false,
-    }
-}
 
 // Digits are missing, or the sign of a home direction.
 pub fn is_missing(word: Word<'_>) -> bool
@@ -45,8 +34,8 @@ pub fn is_missing(word: Word<'_>) -> bool
             if code.is_empty() {
                 return true;
             }
-            if Field::Code.value(code) == HOME_DIRECTION {
-                return is_absent(sign);
+            if is_home(code) {
+                return sign.is_none();
             }
             digits.is_empty()
         }
@@ -83,10 +72,7 @@ pub fn is_foreign(named: bool, heard: &Heard, word: Word<'_>) -> bool
 fn asks(code: Option<HostCode>) -> bool
     ensures { result ≡ is_transfer code }
 {
-    match code {
-        Some(code) => code.is_transfer(),
-        None => false,
-    }
+    code.is_some_and(|code| code.is_transfer())
 }
 
 // Whether a word's code is none, or no transfer behind `!`.
@@ -95,14 +81,14 @@ pub fn is_unnamed(bang: bool, word: Word<'_>) -> bool
 {
     if bang {
         return match word {
-            Word::H { digits, .. } => !asks(HostCode::coded(Field::Code.value(digits))),
+            Word::H { digits, .. } => !asks(HostCode::coded(digits.value(Field::Code))),
             _ => true,
         };
     }
     match word {
-        Word::G { digits, .. } => ProgramCode::coded(Field::Code.value(digits)).is_none(),
-        Word::H { digits, .. } => HostCode::coded(Field::Code.value(digits)).is_none(),
-        Word::L { code, .. } => Parameter::coded(Field::Code.value(code)).is_none(),
+        Word::G { digits, .. } => ProgramCode::coded(digits.value(Field::Code)).is_none(),
+        Word::H { digits, .. } => HostCode::coded(digits.value(Field::Code)).is_none(),
+        Word::L { code, .. } => Parameter::coded(code.value(Field::Code)).is_none(),
         _ => false,
     }
 }
@@ -119,12 +105,11 @@ fn takes(settings: &Settings, parameter: Option<Parameter>, number: i32) -> bool
 
 // Whether there is no such program line, or the parameter does not take the number.
 pub fn is_outside(settings: &Settings, word: Word<'_>) -> bool
-    requires { digits (spelled word).digits ≡ true }
     ensures { result ≡ outside settings.now.resolution (spelled word.entry) }
 {
     match word {
         Word::N { digits, .. } => {
-            let line = Field::Line.value(digits);
+            let line = digits.value(Field::Line);
             line < 1 || line > LINES
         }
         Word::L {
@@ -134,7 +119,7 @@ pub fn is_outside(settings: &Settings, word: Word<'_>) -> bool
             ..
         } => {
             let number = data(code, sign, digits);
-            !takes(settings, Parameter::coded(Field::Code.value(code)), number)
+            !takes(settings, Parameter::coded(code.value(Field::Code)), number)
         }
         _ => false,
     }

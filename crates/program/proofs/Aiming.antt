@@ -25,7 +25,7 @@ module _ (R n : ℕ) (bs : List ℕ) (before after : Hearing) (begins : Begins b
   start k = rw (begins.line, begins.behind, begins.silent, begins.length, begins.rest)
 
   first_word : (b : Bool) → Hears R before after (Ok b) → heard_on R (named (words n bs)) false nothing (take 1 (words n bs)) ≡ Ok after.heard
-  first_word true h = ap (heard_on R (named (words n bs)) false nothing) (sym (first_alone n bs)) ∙ sym (start 1) ∙ sym (h 0)
+  first_word true h = ap (heard_on R (named (words n bs)) false nothing) (sym (first_alone n bs)) ∙ sym (start 1) ∙ sym (h.1 0)
   first_word false h = ap (heard_on R (named (words n bs)) false nothing) (sym (first_alone n bs)) ∙ sym (start 1) ∙ h.1 1 ∙ ap Ok (sym h.0)
 
   pub aims : (b : Bool) (p r : ℕ) → Hears R before after (Ok b) → NumberedOr after.heard.line p r → Aims R n bs p r

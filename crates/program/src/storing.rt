@@ -14,23 +14,20 @@ use orders::heard::{Fields, Heard};
 use orders::hearing::Hearing;
 use orders::order::Order;
 use settings::values::Settings;
+use words::reader::Reader;
 
 // Each word's field goes into the line as it is heard; where a word is wrong the line is left half written.
 fn hear_into(
     line: &mut Fields,
-    rest: &[u8],
-    length: usize,
+    reader: Reader<'_>,
     settings: &Settings,
 ) -> Result<Heard, WordFault>
-    ensures said { result ≡ heard_of settings.now.resolution false (words length rest.now) }
+    ensures said { result ≡ heard_of settings.now.resolution false (words reader.entry.length reader.entry.rest.now) }
     ensures fields { IfOk result (λ h. line.new ≡ h.fields) }
 {
-    let mut hearing = Hearing::new(rest, length, false);
+    let mut hearing = Hearing::new(reader, false);
     *line = UNPROGRAMMED;
-    for turn in 0..rest.len() {
-        if !hearing.word(settings)? {
-            return Ok(hearing.heard());
-        }
+    while hearing.word(settings)? {
         *line = hearing.heard().fields;
     }
     Ok(hearing.heard())
@@ -70,13 +67,12 @@ fn is_store(order: Order) -> bool
 pub fn store_words(
     lines: &mut [Fields],
     at: LineNumber,
-    rest: &[u8],
-    length: usize,
+    reader: Reader<'_>,
     settings: &Settings,
     busy: bool,
 ) -> Result<Order, OrderFault>
     requires { len lines.old ≡ 400 }
-    ensures order { result ≡ judged busy (and_then (heard_of settings.now.resolution false (words length rest.now)) (λ h. Ok (order h))) }
+    ensures order { result ≡ judged busy (and_then (heard_of settings.now.resolution false (words reader.entry.length reader.entry.rest.now)) (λ h. Ok (order h))) }
     ensures lines { lines.new ≡ stored_at (at.number - 1) result lines.old }
 {
     let i = at.index();
@@ -86,7 +82,7 @@ pub fn store_words(
         old,
         committed: false,
     };
-    let heard = hear_into(guard.line, rest, length, settings)?;
+    let heard = hear_into(guard.line, reader, settings)?;
     let order = judge(busy, heard.order())?;
     guard.committed = is_store(order);
     Ok(order)
@@ -106,10 +102,10 @@ fn line_or(number: Option<u32>, pointer: LineNumber) -> LineNumber
 }
 
 // The line that the words name, where they are accepted and name one; else the pointer's.
-pub fn target_of(rest: &[u8], length: usize, pointer: LineNumber, settings: &Settings) -> LineNumber
-    ensures { Aims settings.now.resolution length rest.now pointer.number result.number }
+pub fn target_of(reader: Reader<'_>, pointer: LineNumber, settings: &Settings) -> LineNumber
+    ensures { Aims settings.now.resolution reader.entry.length reader.entry.rest.now pointer.number result.number }
 {
-    let mut hearing = Hearing::new(rest, length, false);
+    let mut hearing = Hearing::new(reader, false);
     match hearing.word(settings) {
         Ok(some) => line_or(hearing.heard().line, pointer),
         Err(fault) => pointer,

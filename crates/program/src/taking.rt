@@ -44,9 +44,9 @@ pub fn take(
             order,
             line: pointer,
         }),
-        Start::Words { rest } => {
-            let named = target_of(rest, line.len(), pointer, settings);
-            let order = store_words(lines, named, rest, line.len(), settings, busy)?;
+        Start::Words { reader } => {
+            let named = target_of(reader, pointer, settings);
+            let order = store_words(lines, named, reader, settings, busy)?;
             Ok(Taken {
                 order,
                 line: line_about(order, named, pointer),

@@ -16,38 +16,29 @@ fn next_word<'a>(reader: &mut Reader<'a>) -> Option<Word<'a>>
     ensures word { Handed reader.old.length reader.old.rest.now reader.new.rest.now result }
     ensures length { reader.new.length ≡ reader.old.length }
 {
-    match reader.word() {
-        Ok(word) => word,
-        Err(fault) => None,
-    }
+    reader.word().unwrap_or(None)
 }
 
 // Whether one of the words is N.
-fn names_line(rest: &[u8], length: usize) -> bool
-    ensures { result ≡ named (words length rest.now) }
+fn names_line(mut reader: Reader<'_>) -> bool
+    ensures { result ≡ named (words reader.entry.length reader.entry.rest.now) }
 {
-    let mut reader = Reader::new(rest, length);
-    for turn in 0..rest.len() {
-        match next_word(&mut reader) {
-            Some(word) => {
-                if word.is_line() {
-                    return true;
-                }
-            }
-            None => return false,
+    while let Some(word) = next_word(&mut reader) {
+        if word.is_line() {
+            return true;
         }
     }
     false
 }
 
 impl<'a> Hearing<'a> {
-    // Of the last bytes of a line of this length.
-    pub fn new(rest: &'a [u8], length: usize, bang: bool) -> Hearing<'a>
-        ensures { Begins rest.now length bang result }
+    // Of what is left of a line.
+    pub fn new(reader: Reader<'a>, bang: bool) -> Hearing<'a>
+        ensures { Begins reader.entry.rest.now reader.entry.length bang result }
     {
         Hearing {
-            reader: Reader::new(rest, length),
-            named: names_line(rest, length),
+            reader,
+            named: names_line(reader),
             bang,
             heard: Heard::nothing(),
         }

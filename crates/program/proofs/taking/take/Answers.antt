@@ -27,12 +27,15 @@ pub returns-in_ok-order-in-Words : goal.returns-in_ok-order-in-Words
 returns-in_ok-order-in-Words c =
     let R = c.args.settings.now.resolution in
     let bs = c.args.line.now in
-    let rest = c.in-Words.rest.now in
+    let rest = c.in-Words.reader.rest.now in
+    let n = c.in-Words.reader.length in
     let lines = c.args.lines.now in
     let o = c.in_ok-order-in-Words.order in
-    let is : Opened R bs (Ok (Words c.in-Words.rest)) = subst (λ (s : Start). Opened R bs (Ok s)) c.in-Words.is c.in_ok-order.ensures in
-    let read = is.1 ∙ ap (λ (xs : List ℕ). and_then (heard_of R false (words (length bs) xs)) (λ h. Ok (order h))) (sym is.0) in
-    let all = by_words R c.args.busy lines bs c.if-lines-ne-LINES.false (length bs) rest o c.target_of-named.result.number c.args.pointer.number read
+    let is : Opened R bs (Ok (Words c.in-Words.reader)) = subst (λ (s : Start). Opened R bs (Ok s)) c.in-Words.is c.in_ok-order.ensures in
+    let read = is.2 ∙ ap (λ (xs : List ℕ). and_then (heard_of R false (words (length bs) xs)) (λ h. Ok (order h))) (sym is.0)
+    ∙ ap (λ m. and_then (heard_of R false (words m rest)) (λ h. Ok (order h))) (sym is.1)
+    in
+    let all = by_words R c.args.busy lines bs c.if-lines-ne-LINES.false n rest o c.target_of-named.result.number c.args.pointer.number read
     c.target_of-named.ensures (sym c.in_ok-order-in-Words.ensures.order)
     in
     record { order = (all.0, c.line_about.ensures ∙ all.1); lines = c.in_ok-order-in-Words.ensures.lines ∙ all.2 }

@@ -1,26 +1,15 @@
-use Rattle.std.proofs.Common.{◌+◌, ◌-◌, ◌||◌, length, sym, ap, ◌∙◌}
-use Rattle.words.specs.Words.{spelled}
-use Rattle.words.specs.Listing.{listed}
+use Rattle.std.proofs.Common.{◌||◌, sym, ap, ◌∙◌}
+use Rattle.words.specs.Listing.{words}
 use Rattle.orders.specs.Lines.{named}
 use Rattle.orders.proofs.Hands.{first_left}
 use Rattle.orders.proofs.hearing.steps.names_line.Goals as goal
 
-pub returns-then-is_line : goal.returns-then-is_line
-returns-then-is_line c =
-    let t = c.loop-turn.turn in
-    let w = c.in-Some.word in
-    let left = listed (length c.args.rest.now - (t + 1)) c.args.length c.next_word.new.reader.rest.now in
-    let first = first_left (length c.args.rest.now) t c.args.length c.loop-turn.reader.length c.loop-turn.reader.rest.now
-    c.next_word.new.reader.rest.now (spelled w) c.loop-turn-test.true c.loop-turn.invariant.1 c.in-Some.ensures.word.1
-    in
-    ap (λ b. b || named left) c.if-is_line.ensures ∙ sym (ap named first) ∙ c.loop-turn.invariant.0
-
-pub loop-turn-preserved : goal.loop-turn-preserved
-loop-turn-preserved c =
-    let t = c.loop-turn.turn in
-    let w = c.in-Some.word in
-    let left = listed (length c.args.rest.now - (t + 1)) c.args.length c.next_word.new.reader.rest.now in
-    let first = first_left (length c.args.rest.now) t c.args.length c.loop-turn.reader.length c.loop-turn.reader.rest.now
-    c.next_word.new.reader.rest.now (spelled w) c.loop-turn-test.true c.loop-turn.invariant.1 c.in-Some.ensures.word.1
-    in
-    (ap (λ b. b || named left) c.if-is_line.ensures ∙ sym (ap named first) ∙ c.loop-turn.invariant.0, c.in-Some.ensures.length ∙ c.loop-turn.invariant.1)
+pub loop-word-preserved : goal.loop-word-preserved
+loop-word-preserved c =
+    let n = c.loop-word.reader.length in
+    let after = c.next_word.new.reader.rest.now in
+    let same = c.in-Some.ensures.length in
+    let first = first_left n c.loop-word.reader.rest.now after c.in-Some.word c.in-Some.ensures.word in (
+      ap (λ m. named (words m after)) same ∙ ap (λ b. b || named (words n after)) c.if-is_line.ensures ∙ sym (ap named first) ∙ c.loop-word.invariant.0,
+      same ∙ c.loop-word.invariant.1,
+    )
