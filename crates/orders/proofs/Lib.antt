@@ -4,7 +4,6 @@ pub mod Cutting
 pub mod FirstByte
 pub mod FirstByteLaw
 pub mod Hands
-pub mod Home
 pub mod Naming
 pub mod Narrowing
 pub mod Outcomes
