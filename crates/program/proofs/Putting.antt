@@ -1,6 +1,7 @@
 -- The guard's two ways out, as one.
 use Rattle.std.proofs.Common.{◌≡◌, ℕ, Bool, true, false, cond, List, get_or, set, Some, None, Ok, Err, Option, Result, sym, refl, ap, ◌∙◌}
 use lib.Seq.{set-get_or}
+use Rattle.std.specs.Option.{unwrap_or}
 use Rattle.orders.proofs.Outcomes.{refused}
 use Rattle.codes.specs.declared.host.HostCode.{HostCode}
 use Rattle.orders.specs.Meanings.{any_field}
@@ -49,6 +50,11 @@ module _ (lines : List Fields) (i : ℕ) (d : Fields) where
       ∙ puts h
       ∙ ap (λ x. stored_at i (Ok x) lines) same
       ∙ ap (λ k. stored_at k (Ok o) lines) at
+
+-- what the guard leaves: the line as it is written where nothing is put back
+pub left : (k : Bool) (d f : Fields) → unwrap_or (cond k None (Some d)) f ≡ cond k f d
+left true d f = refl
+left false d f = refl
 
 abbrev told : Order → Result Order OrderFault → Order
 told o (Ok x) = x

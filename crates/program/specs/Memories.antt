@@ -75,6 +75,10 @@ stores (Store l f) = true
 stores (Set s) = false
 stores (Act l c) = false
 
+-- what is put back of a line after an order: nothing where that stores the line
+abbrev pub put_back : Order → Fields → Option Fields
+put_back o f = cond (stores o) None (Some f)
+
 -- r is the number given, where that is a line's, or the pointer's where none is given
 abbrev pub NumberedOr : Option ℕ → ℕ → ℕ → Type 0
 NumberedOr (Some n) p r = 1 ≤ n → n ≤ 400 → r ≡ n

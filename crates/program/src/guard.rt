@@ -1,25 +1,21 @@
-// A line that is being written: put back on every way out, unless it was committed.
-ghost use Rattle.std.specs.Prelude.{◌≡◌, if◌then◌else◌};
+// A line that is being written: put back on every way out, unless it is to stay.
+ghost use Rattle.std.specs.Prelude.{◌≡◌, unwrap_or};
 
 use orders::heard::Fields;
 
 pub struct Guard<'a> {
     pub line: &'a mut Fields,
-    pub old: Fields,
-    pub committed: bool,
+    // What is put back; none once the line is to stay as it is written.
+    pub old: Option<Fields>,
 }
 
 impl Drop for Guard<'_> {
     fn drop(self)
-        ensures { self.exit.0.now ≡ (if self.entry.committed then self.entry.line.now else self.entry.old) }
+        ensures { self.exit.0.now ≡ unwrap_or self.entry.old self.entry.line.now }
     {
-        if !self.committed {
-            *self.line = self.old;
+        if let Some(old) = self.old {
+            *self.line = old;
         }
-        let Guard {
-            line: _,
-            old: _,
-            committed: _,
-        } = self;
+        let Guard { line: _, old: _ } = self;
     }
 }

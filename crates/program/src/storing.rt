@@ -3,7 +3,7 @@ ghost use Rattle.std.specs.Prelude.{◌≡◌, ◌-◌, false, length as len, If
 ghost use Rattle.words.specs.Listing.{words};
 ghost use Rattle.orders.specs.Lines.{heard_of, and_then};
 ghost use Rattle.orders.specs.Orders.{order};
-ghost use Rattle.program.specs.Memories.{waits, judged, stored_at, stores, NumberedOr, Aims};
+ghost use Rattle.program.specs.Memories.{waits, judged, stored_at, put_back, NumberedOr, Aims};
 
 use crate::clearing::UNPROGRAMMED;
 use crate::fault::OrderFault;
@@ -17,11 +17,7 @@ use settings::values::Settings;
 use words::reader::Reader;
 
 // Each word's field goes into the line as it is heard; where a word is wrong the line is left half written.
-fn hear_into(
-    line: &mut Fields,
-    reader: Reader<'_>,
-    settings: &Settings,
-) -> Result<Heard, WordFault>
+fn hear_into(line: &mut Fields, reader: Reader<'_>, settings: &Settings) -> Result<Heard, WordFault>
     ensures said { result ≡ heard_of settings.now.resolution false (words reader.entry.length reader.entry.rest.now) }
     ensures fields { IfOk result (λ h. line.new ≡ h.fields) }
 {
@@ -36,12 +32,10 @@ fn hear_into(
 fn must_wait(order: Order) -> bool
     ensures { result ≡ waits order }
 {
-    match order {
-        Order::Point { .. } => true,
-        Order::Store { .. } => true,
-        Order::Set { .. } => true,
-        _ => false,
-    }
+    matches!(
+        order,
+        Order::Point { .. } | Order::Store { .. } | Order::Set { .. }
+    )
 }
 
 // A busy board refuses what has to wait.
@@ -54,12 +48,13 @@ fn judge(busy: bool, order: Order) -> Result<Order, OrderFault>
     Ok(order)
 }
 
-fn is_store(order: Order) -> bool
-    ensures { result ≡ stores order }
+// What is put back of a line after an order: nothing where that stores the line.
+fn put_back(order: Order, old: Fields) -> Option<Fields>
+    ensures { result ≡ put_back order old }
 {
     match order {
-        Order::Store { .. } => true,
-        _ => false,
+        Order::Store { .. } => None,
+        _ => Some(old),
     }
 }
 
@@ -79,12 +74,11 @@ pub fn store_words(
     let old = lines[i];
     let mut guard = Guard {
         line: &mut lines[i],
-        old,
-        committed: false,
+        old: Some(old),
     };
     let heard = hear_into(guard.line, reader, settings)?;
     let order = judge(busy, heard.order())?;
-    guard.committed = is_store(order);
+    guard.old = put_back(order, old);
     Ok(order)
 }
 
@@ -92,13 +86,7 @@ pub fn store_words(
 fn line_or(number: Option<u32>, pointer: LineNumber) -> LineNumber
     ensures { NumberedOr number pointer.number result.number }
 {
-    match number {
-        Some(number) => match LineNumber::new(number) {
-            Some(line) => line,
-            None => pointer,
-        },
-        None => pointer,
-    }
+    number.and_then(LineNumber::new).unwrap_or(pointer)
 }
 
 // The line that the words name, where they are accepted and name one; else the pointer's.
