@@ -41,6 +41,7 @@ impl<'a, T: Copy> Ring<'a, T> {
     }
 
     // Behind all others; refused where there is no room, and then nothing changes.
+    #[tactic(auto, using(crate::proofs::Wraps::pushed))]
     pub fn push(&mut self, element: T) -> Result<(), Full>
         ensures last { OnOk result (held self.new ≡ held self.old ++ element ∷ []) }
         ensures full { OnErr result (length (held self.old) ≡ room self.old) }
@@ -59,6 +60,7 @@ impl<'a, T: Copy> Ring<'a, T> {
     }
 
     // The oldest element, whose room is free then; none where it is empty.
+    #[tactic(auto, using(crate::proofs::Wraps::popped))]
     pub fn take(&mut self) -> Option<T>
         ensures oldest { MatchOption result (held self.old ≡ []) (λ x. held self.old ≡ x ∷ held self.new) }
         ensures unchanged { IfNone result (self.new ≡ self.old) }
