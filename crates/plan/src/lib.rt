@@ -1,7 +1,6 @@
 // The legs of a move, and whether they may be made.
 #![tactic(auto)]
 
-mod border;
 mod distance;
 pub mod fault;
 pub mod leg;

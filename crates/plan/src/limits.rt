@@ -1,9 +1,8 @@
 // Whether all legs of a move may be made.
 ghost use Rattle.std.specs.Prelude.{◌≡◌};
 ghost use Rattle.plan.specs.Legs.{listed};
-ghost use Rattle.plan.specs.Limits.{enabled, past_limit, allowed};
+ghost use Rattle.plan.specs.Limits.{enabled, past_limit, any_leg, allowed};
 
-use crate::border::{Border, CounterEnd, any_is_past};
 use crate::fault::MoveFault;
 use crate::route::Legs;
 
@@ -14,20 +13,45 @@ pub struct Limits {
     pub counterclockwise: i32,
 }
 
+// The counter's own, which are always there.
+const ENDS: Limits = Limits {
+    clockwise: 999_999_999,
+    counterclockwise: -999_999_999,
+};
+
 fn is_enabled(limit: i32) -> bool
     ensures { result ≡ enabled limit }
 {
     limit != 0
 }
 
-impl Border for Limits {
-    ghost past = { λ limits. past_limit limits.clockwise limits.counterclockwise };
-
-    fn is_past(&self, leg: i64, end: i64) -> bool {
+impl Limits {
+    // Whether a leg of so many pulses that ends there ends past the limit of its way.
+    fn is_past(self, leg: i64, end: i64) -> bool
+        ensures { result ≡ past_limit self.clockwise self.counterclockwise leg end }
+    {
         if leg > 0 {
             return is_enabled(self.clockwise) && end > self.clockwise as i64;
         }
         leg < 0 && is_enabled(self.counterclockwise) && end < self.counterclockwise as i64
+    }
+
+    // Whether any leg is such, one after the other from the counter on.
+    fn any_is_past(self, legs: Legs, counter: i32) -> bool
+        ensures { result ≡ any_leg (past_limit self.clockwise self.counterclockwise) counter (listed legs) }
+    {
+        let mut end = counter as i64;
+        for leg in [Some(legs.first), legs.second, legs.third]
+            .iter()
+            .copied()
+            .flatten()
+        {
+            end += leg.pulses;
+            if self.is_past(leg.pulses, end) {
+                return true;
+            }
+        }
+        false
     }
 }
 
@@ -35,10 +59,10 @@ impl Border for Limits {
 pub fn check(legs: Legs, counter: i32, limits: Limits) -> Result<(), MoveFault>
     ensures { result ≡ allowed limits.clockwise limits.counterclockwise counter (listed legs) }
 {
-    if any_is_past(&limits, legs, counter) {
+    if limits.any_is_past(legs, counter) {
         return Err(MoveFault::PastLimit);
     }
-    if any_is_past(&CounterEnd, legs, counter) {
+    if ENDS.any_is_past(legs, counter) {
         return Err(MoveFault::PastEnd);
     }
     Ok(())

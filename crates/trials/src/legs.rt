@@ -2,7 +2,7 @@
 use plan::fault::MoveFault;
 use plan::leg::Leg;
 use plan::legs::index;
-use plan::limits::{check, Limits};
+use plan::limits::{Limits, check};
 use plan::route::Legs;
 use std::test::Fail;
 
