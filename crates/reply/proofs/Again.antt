@@ -2,14 +2,14 @@
 use Rattle.std.proofs.Common.{◌≡◌, ℕ, zero, suc, ◌-◌, true, List, [], ◌∷◌, ◌++◌, length, ℤ, pos, negsuc, nat_abs, Some, None, Option, refl, ap, ◌∙◌}
 use Rattle.codes.specs.Program.{code}
 use Rattle.codes.specs.declared.program.ProgramCode.{ProgramCode}
-use Rattle.scan.specs.Numbers.{digits}
+use Rattle.scan.specs.Numbers.{digit, digits}
 use Rattle.scan.specs.Runs.{past}
-use Rattle.words.specs.Bytes.{blank, digit}
+use Rattle.words.specs.Bytes.{blank}
 use Rattle.words.specs.Words.{Spelled}
 use Rattle.words.specs.Checking.{first_bad}
 use Rattle.words.specs.Listing.{listed}
 use Rattle.words.specs.declared.word.Sign.{Sign}
-use Rattle.words.specs.declared.word.Sign.TheVariants.{Absent, Plus, Minus}
+use Rattle.words.specs.declared.word.Sign.TheVariants.{Plus, Minus}
 use Rattle.orders.proofs.Spacing.{words_here, goes_on, words_from, bad_from}
 use Rattle.orders.proofs.Widening.{past_on}
 use Rattle.reply.specs.Texts.{padded, sign_of, code_text, x_text, feed_text}
@@ -20,44 +20,44 @@ pub record Reads (k n : ℕ) (bs : List ℕ) (ws : List Spelled) : Type 0 where
   pub words : listed k n bs ≡ ws
   pub good : first_bad k n bs ≡ None
 
-abbrev pub word : ℕ → ℕ → Sign → List ℕ → Spelled
+abbrev pub word : ℕ → ℕ → Option Sign → List ℕ → Spelled
 word c p s ds = record { letter = c; place = p; code = []; sign = s; digits = ds }
 
 -- a word before a blank: its letter, what may stand before its digits, and these
 module _ (k n : ℕ) (ds rest : List ℕ) (ws : List Spelled) (all : digits ds ≡ true) (on : Reads k n (32 ∷ rest) ws) where
-  n_word : Reads (suc k) n (78 ∷ (ds ++ 32 ∷ rest)) (word 78 (n - length (ds ++ 32 ∷ rest)) Absent ds ∷ ws)
+  n_word : Reads (suc k) n (78 ∷ (ds ++ 32 ∷ rest)) (word 78 (n - length (ds ++ 32 ∷ rest)) None ds ∷ ws)
   n_word = record {
     words = words_here k n 78 (ds ++ 32 ∷ rest) refl
-        ∙ ap (λ bs. word 78 (n - length (ds ++ 32 ∷ rest)) Absent bs ∷ listed k n (past digit (ds ++ 32 ∷ rest))) (span_blank ds rest all)
-        ∙ ap (λ bs. word 78 (n - length (ds ++ 32 ∷ rest)) Absent ds ∷ listed k n bs) (past_digits ds rest all)
-        ∙ ap (λ (vs : List Spelled). word 78 (n - length (ds ++ 32 ∷ rest)) Absent ds ∷ vs) on.words;
+        ∙ ap (λ bs. word 78 (n - length (ds ++ 32 ∷ rest)) None bs ∷ listed k n (past digit (ds ++ 32 ∷ rest))) (span_blank ds rest all)
+        ∙ ap (λ bs. word 78 (n - length (ds ++ 32 ∷ rest)) None ds ∷ listed k n bs) (past_digits ds rest all)
+        ∙ ap (λ (vs : List Spelled). word 78 (n - length (ds ++ 32 ∷ rest)) None ds ∷ vs) on.words;
     good = goes_on k n 78 (ds ++ 32 ∷ rest) refl ∙ ap (first_bad k n) (past_digits ds rest all) ∙ on.good;
   }
 
-  g_word : Reads (suc k) n (71 ∷ (ds ++ 32 ∷ rest)) (word 71 (n - length (ds ++ 32 ∷ rest)) Absent ds ∷ ws)
+  g_word : Reads (suc k) n (71 ∷ (ds ++ 32 ∷ rest)) (word 71 (n - length (ds ++ 32 ∷ rest)) None ds ∷ ws)
   g_word = record {
     words = words_here k n 71 (ds ++ 32 ∷ rest) refl
-        ∙ ap (λ bs. word 71 (n - length (ds ++ 32 ∷ rest)) Absent bs ∷ listed k n (past digit (ds ++ 32 ∷ rest))) (span_blank ds rest all)
-        ∙ ap (λ bs. word 71 (n - length (ds ++ 32 ∷ rest)) Absent ds ∷ listed k n bs) (past_digits ds rest all)
-        ∙ ap (λ (vs : List Spelled). word 71 (n - length (ds ++ 32 ∷ rest)) Absent ds ∷ vs) on.words;
+        ∙ ap (λ bs. word 71 (n - length (ds ++ 32 ∷ rest)) None bs ∷ listed k n (past digit (ds ++ 32 ∷ rest))) (span_blank ds rest all)
+        ∙ ap (λ bs. word 71 (n - length (ds ++ 32 ∷ rest)) None ds ∷ listed k n bs) (past_digits ds rest all)
+        ∙ ap (λ (vs : List Spelled). word 71 (n - length (ds ++ 32 ∷ rest)) None ds ∷ vs) on.words;
     good = goes_on k n 71 (ds ++ 32 ∷ rest) refl ∙ ap (first_bad k n) (past_digits ds rest all) ∙ on.good;
   }
 
-  plus_word : Reads (suc k) n (88 ∷ 43 ∷ (ds ++ 32 ∷ rest)) (word 88 (n - length (43 ∷ (ds ++ 32 ∷ rest))) Plus ds ∷ ws)
+  plus_word : Reads (suc k) n (88 ∷ 43 ∷ (ds ++ 32 ∷ rest)) (word 88 (n - length (43 ∷ (ds ++ 32 ∷ rest))) (Some Plus) ds ∷ ws)
   plus_word = record {
     words = words_here k n 88 (43 ∷ (ds ++ 32 ∷ rest)) refl
-        ∙ ap (λ bs. word 88 (n - length (43 ∷ (ds ++ 32 ∷ rest))) Plus bs ∷ listed k n (past digit (ds ++ 32 ∷ rest))) (span_blank ds rest all)
-        ∙ ap (λ bs. word 88 (n - length (43 ∷ (ds ++ 32 ∷ rest))) Plus ds ∷ listed k n bs) (past_digits ds rest all)
-        ∙ ap (λ (vs : List Spelled). word 88 (n - length (43 ∷ (ds ++ 32 ∷ rest))) Plus ds ∷ vs) on.words;
+        ∙ ap (λ bs. word 88 (n - length (43 ∷ (ds ++ 32 ∷ rest))) (Some Plus) bs ∷ listed k n (past digit (ds ++ 32 ∷ rest))) (span_blank ds rest all)
+        ∙ ap (λ bs. word 88 (n - length (43 ∷ (ds ++ 32 ∷ rest))) (Some Plus) ds ∷ listed k n bs) (past_digits ds rest all)
+        ∙ ap (λ (vs : List Spelled). word 88 (n - length (43 ∷ (ds ++ 32 ∷ rest))) (Some Plus) ds ∷ vs) on.words;
     good = goes_on k n 88 (43 ∷ (ds ++ 32 ∷ rest)) refl ∙ ap (first_bad k n) (past_digits ds rest all) ∙ on.good;
   }
 
-  minus_word : Reads (suc k) n (88 ∷ 45 ∷ (ds ++ 32 ∷ rest)) (word 88 (n - length (45 ∷ (ds ++ 32 ∷ rest))) Minus ds ∷ ws)
+  minus_word : Reads (suc k) n (88 ∷ 45 ∷ (ds ++ 32 ∷ rest)) (word 88 (n - length (45 ∷ (ds ++ 32 ∷ rest))) (Some Minus) ds ∷ ws)
   minus_word = record {
     words = words_here k n 88 (45 ∷ (ds ++ 32 ∷ rest)) refl
-        ∙ ap (λ bs. word 88 (n - length (45 ∷ (ds ++ 32 ∷ rest))) Minus bs ∷ listed k n (past digit (ds ++ 32 ∷ rest))) (span_blank ds rest all)
-        ∙ ap (λ bs. word 88 (n - length (45 ∷ (ds ++ 32 ∷ rest))) Minus ds ∷ listed k n bs) (past_digits ds rest all)
-        ∙ ap (λ (vs : List Spelled). word 88 (n - length (45 ∷ (ds ++ 32 ∷ rest))) Minus ds ∷ vs) on.words;
+        ∙ ap (λ bs. word 88 (n - length (45 ∷ (ds ++ 32 ∷ rest))) (Some Minus) bs ∷ listed k n (past digit (ds ++ 32 ∷ rest))) (span_blank ds rest all)
+        ∙ ap (λ bs. word 88 (n - length (45 ∷ (ds ++ 32 ∷ rest))) (Some Minus) ds ∷ listed k n bs) (past_digits ds rest all)
+        ∙ ap (λ (vs : List Spelled). word 88 (n - length (45 ∷ (ds ++ 32 ∷ rest))) (Some Minus) ds ∷ vs) on.words;
     good = goes_on k n 88 (45 ∷ (ds ++ 32 ∷ rest)) refl ∙ ap (first_bad k n) (past_digits ds rest all) ∙ on.good;
   }
 
@@ -80,23 +80,23 @@ nothing_left zero n = record { words = refl; good = refl }
 nothing_left (suc k) n = record { words = refl; good = refl }
 
 -- the last word
-f_word : (k n : ℕ) (ds : List ℕ) → digits ds ≡ true → Reads (suc k) n (70 ∷ ds) (word 70 (n - length ds) Absent ds ∷ [])
+f_word : (k n : ℕ) (ds : List ℕ) → digits ds ≡ true → Reads (suc k) n (70 ∷ ds) (word 70 (n - length ds) None ds ∷ [])
 f_word k n ds all = record {
   words = words_here k n 70 ds refl
-      ∙ ap (λ bs. word 70 (n - length ds) Absent bs ∷ listed k n (past digit ds)) (span_end ds all)
-      ∙ ap (λ bs. word 70 (n - length ds) Absent ds ∷ listed k n bs) (past_end ds all)
-      ∙ ap (λ (vs : List Spelled). word 70 (n - length ds) Absent ds ∷ vs) (nothing_left k n).words;
+      ∙ ap (λ bs. word 70 (n - length ds) None bs ∷ listed k n (past digit ds)) (span_end ds all)
+      ∙ ap (λ bs. word 70 (n - length ds) None ds ∷ listed k n bs) (past_end ds all)
+      ∙ ap (λ (vs : List Spelled). word 70 (n - length ds) None ds ∷ vs) (nothing_left k n).words;
   good = goes_on k n 70 ds refl ∙ ap (first_bad k n) (past_end ds all) ∙ (nothing_left k n).good;
 }
 
-abbrev pub sign_word : ℤ → Sign
-sign_word (pos n) = Plus
-sign_word (negsuc n) = Minus
+abbrev pub sign_word : ℤ → Option Sign
+sign_word (pos n) = Some Plus
+sign_word (negsuc n) = Some Minus
 
 -- the words of each part, with what stands behind it
 abbrev pub feed_words : ℕ → Option ℕ → List Spelled
 feed_words n None = []
-feed_words n (Some f) = word 70 (n - length (padded 7 f)) Absent (padded 7 f) ∷ []
+feed_words n (Some f) = word 70 (n - length (padded 7 f)) None (padded 7 f) ∷ []
 
 feed_reads : (k n : ℕ) (f : Option ℕ) → Reads (suc k) n (feed_text f) (feed_words n f)
 feed_reads k n None = blanks_first 8 k n [] [] (record { words = refl; good = refl })
@@ -114,7 +114,7 @@ x_reads k n (Some (negsuc m)) f =
 
 abbrev pub code_words : ℕ → Option ProgramCode → List ℕ → List Spelled
 code_words n None rest = []
-code_words n (Some c) rest = word 71 (n - length (padded 2 (code c) ++ 32 ∷ rest)) Absent (padded 2 (code c)) ∷ []
+code_words n (Some c) rest = word 71 (n - length (padded 2 (code c) ++ 32 ∷ rest)) None (padded 2 (code c)) ∷ []
 
 code_reads : (k n : ℕ) (g : Option ProgramCode) (x : Option ℤ) (f : Option ℕ)
     → Reads (suc (suc (suc k))) n (code_text g ++ 32 ∷ (x_text x ++ 32 ∷ feed_text f)) (code_words n g (x_text x ++ 32 ∷ feed_text f) ++ (x_words n x (feed_text f) ++ feed_words n f))
@@ -125,7 +125,7 @@ code_reads k n (Some c) x f =
 
 pub line_reads : (k n m : ℕ) (g : Option ProgramCode) (x : Option ℤ) (f : Option ℕ)
     → Reads (suc (suc (suc (suc k)))) n (78 ∷ (padded 3 m ++ 32 ∷ (code_text g ++ 32 ∷ (x_text x ++ 32 ∷ feed_text f))))
-    (word 78 (n - length (padded 3 m ++ 32 ∷ (code_text g ++ 32 ∷ (x_text x ++ 32 ∷ feed_text f)))) Absent (padded 3 m)
+    (word 78 (n - length (padded 3 m ++ 32 ∷ (code_text g ++ 32 ∷ (x_text x ++ 32 ∷ feed_text f)))) None (padded 3 m)
     ∷ (code_words n g (x_text x ++ 32 ∷ feed_text f) ++ (x_words n x (feed_text f) ++ feed_words n f)))
 line_reads k n m g x f =
     n_word (suc (suc (suc k))) n (padded 3 m) (code_text g ++ 32 ∷ (x_text x ++ 32 ∷ feed_text f)) _ (padded_digits 3 m)

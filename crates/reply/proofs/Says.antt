@@ -8,7 +8,6 @@ use Rattle.scan.specs.Fields.{kept}
 use Rattle.scan.specs.Numbers.{value}
 use Rattle.scan.specs.declared.field.Field.TheVariants.{Line, Code, Number, Feed}
 use Rattle.words.specs.declared.word.Sign.{Sign}
-use Rattle.words.specs.declared.word.Sign.TheVariants.{Absent}
 use Rattle.orders.specs.Meanings.{signed, nothing, meaning}
 use Rattle.orders.specs.Lines.{and_then, heard_on}
 use Rattle.orders.specs.declared.heard.Heard.{Heard}
@@ -29,16 +28,16 @@ at_most : (n : ℕ) → n ≤ 400 → leb n 400 ≡ true
 at_most n h = grind (arith, nat_tests)
 
 module _ (R n p : ℕ) (ds : List ℕ) (some : eqb (length ds) 0 ≡ false) where
-  n_says : value (kept Line ds) ≡ n → 1 ≤ n → n ≤ 400 → meaning R true false nothing (word 78 p Absent ds) ≡ Ok (so_far n None None None)
+  n_says : value (kept Line ds) ≡ n → 1 ≤ n → n ≤ 400 → meaning R true false nothing (word 78 p None ds) ≡ Ok (so_far n None None None)
   n_says v least most = rw (some, v, at_least n least, at_most n most)
 
-  g_says : (c : ProgramCode) → value (kept Code ds) ≡ code c → meaning R true false (so_far n None None None) (word 71 p Absent ds) ≡ Ok (so_far n (Some c) None None)
+  g_says : (c : ProgramCode) → value (kept Code ds) ≡ code c → meaning R true false (so_far n None None None) (word 71 p None ds) ≡ Ok (so_far n (Some c) None None)
   g_says c v = rw (some, v, found c)
 
-  x_says : (g : Option ProgramCode) (x : ℤ) (s : Sign) → signed s (value (kept Number ds)) ≡ x → meaning R true false (so_far n g None None) (word 88 p s ds) ≡ Ok (so_far n g (Some x) None)
+  x_says : (g : Option ProgramCode) (x : ℤ) (s : Option Sign) → signed s (value (kept Number ds)) ≡ x → meaning R true false (so_far n g None None) (word 88 p s ds) ≡ Ok (so_far n g (Some x) None)
   x_says g x s v = rw (some, v)
 
-  f_says : (g : Option ProgramCode) (x : Option ℤ) (f : ℕ) → value (kept Feed ds) ≡ f → meaning R true false (so_far n g x None) (word 70 p Absent ds) ≡ Ok (so_far n g x (Some f))
+  f_says : (g : Option ProgramCode) (x : Option ℤ) (f : ℕ) → value (kept Feed ds) ≡ f → meaning R true false (so_far n g x None) (word 70 p None ds) ≡ Ok (so_far n g x (Some f))
   f_says g x f v = rw (some, v)
 
 code_small : (c : ProgramCode) → code c < 10 ^ 2
@@ -86,7 +85,7 @@ module _ (R n m : ℕ) where
       ∙ x_heard (Some c) x f last h i
 
   pub line_heard : (p : ℕ) (g : Option ProgramCode) (x : Option ℤ) (f : Option ℕ) (rest last : List ℕ) → 1 ≤ n → n ≤ 400 → XFits x → FeedFits f
-      → heard_on R true false nothing (word 78 p Absent (padded 3 n) ∷ (code_words m g rest ++ (x_words m x last ++ feed_words m f))) ≡ Ok (so_far n g x f)
+      → heard_on R true false nothing (word 78 p None (padded 3 n) ∷ (code_words m g rest ++ (x_words m x last ++ feed_words m f))) ≡ Ok (so_far n g x f)
   line_heard p g x f rest last least most h i =
       ap (λ (r : Result Heard WordFault). and_then r (λ k. heard_on R true false k (code_words m g rest ++ (x_words m x last ++ feed_words m f))))
       (n_says R n p (padded 3 n) refl (padded_value 3 n (omega arith)) least most)

@@ -2,7 +2,8 @@
 use codes::coded::Coded;
 use codes::host::HostCode;
 use codes::program::ProgramCode;
-use orders::heard::{Fields, Setting};
+use orders::fault::WordFault;
+use orders::heard::Fields;
 use orders::order::Order;
 use orders::reading::read;
 use pin::drive::PinAxis;
@@ -87,64 +88,48 @@ fn refusals(rt: HostRuntime) -> Result<(), Fail> {
     Ok(())
 }
 
-fn ordered(line: &[u8]) -> Result<Order, Fail> {
-    match read(line, &Settings::new::<PinAxis>()) {
-        Ok(order) => Ok(order),
-        Err(_) => Err(Fail::new("refused")),
-    }
+fn ordered(line: &[u8]) -> Result<Order, WordFault> {
+    read(line, &Settings::new::<PinAxis>())
+}
+
+fn act(line: Option<u32>, code: HostCode) -> Result<Order, WordFault> {
+    Ok(Order::Act { line, code })
 }
 
 #[test]
-fn kinds_of_order(rt: HostRuntime) -> Result<(), Fail> {
-    assert!(rt; matches!(ordered(b"*")?, Order::Clear));
-    assert!(rt; matches!(ordered(b"$")?, Order::Hold));
-    assert!(rt; matches!(ordered(b"#")?, Order::Stop));
-    assert!(rt;
-        matches!(
-            ordered(b"!  H17 ")?,
-            Order::Transfer {
-                code: HostCode::SendPosition
-            }
-        )
-    );
-    assert!(rt;
-        matches!(
-            ordered(b"H17")?,
-            Order::Act {
-                line: None,
-                code: HostCode::SendPosition
-            }
-        )
-    );
-    assert!(rt;
-        matches!(
-            ordered(b"N12H0013")?,
-            Order::Act {
-                line: Some(12),
-                code: HostCode::SendLine
-            }
-        )
-    );
-    assert!(rt; matches!(ordered(b"N1400")?, Order::Point { line: 400 }));
-    Ok(())
+fn kinds_of_order(rt: HostRuntime) {
+    assert_eq!(rt; ordered(b"*"), Ok(Order::Clear));
+    assert_eq!(rt; ordered(b"$"), Ok(Order::Hold));
+    assert_eq!(rt; ordered(b"#"), Ok(Order::Stop));
+    let asked = Order::Transfer {
+        code: HostCode::SendPosition,
+    };
+    assert_eq!(rt; ordered(b"!  H17 "), Ok(asked));
+    assert_eq!(rt; ordered(b"H17"), act(None, HostCode::SendPosition));
+    assert_eq!(rt; ordered(b"N12H0013"), act(Some(12), HostCode::SendLine));
+    assert_eq!(rt; ordered(b"N1400"), Ok(Order::Point { line: 400 }));
 }
 
 #[test]
-fn stored_fields(rt: HostRuntime) -> Result<(), Fail> {
-    let Order::Store { line, fields } = ordered(b"N12G91X-1234567890F12345678")? else {
-        return Err(Fail::new("not stored"));
+fn stored_fields(rt: HostRuntime) {
+    let named = Order::Store {
+        line: Some(12),
+        fields: Fields {
+            code: Some(ProgramCode::Incremental),
+            x: Some(-34_567_890),
+            feed: Some(2_345_678),
+        },
     };
-    assert!(rt; matches!(line, Some(12)));
-    let Fields { code, x, feed } = fields;
-    assert!(rt; matches!(code, Some(ProgramCode::Incremental)));
-    assert!(rt; matches!(x, Some(-34_567_890)));
-    assert!(rt; matches!(feed, Some(2_345_678)));
-    let Order::Store { line, fields } = ordered(b"F0 X-0")? else {
-        return Err(Fail::new("not stored"));
+    assert_eq!(rt; ordered(b"N12G91X-1234567890F12345678"), Ok(named));
+    let unnamed = Order::Store {
+        line: None,
+        fields: Fields {
+            code: None,
+            x: Some(0),
+            feed: Some(0),
+        },
     };
-    assert!(rt; line.is_none() && fields.code.is_none());
-    assert!(rt; matches!(fields.x, Some(0)) && matches!(fields.feed, Some(0)));
-    Ok(())
+    assert_eq!(rt; ordered(b"F0 X-0"), Ok(unnamed));
 }
 
 // Lines that set a parameter, its code, and the number.
@@ -164,7 +149,7 @@ const SET: [(&[u8], u8, i32); 10] = [
 #[test]
 fn settings_of_parameters(rt: HostRuntime) -> Result<(), Fail> {
     for (line, code, number) in SET {
-        let Order::Set { setting } = ordered(line)? else {
+        let Ok(Order::Set { setting }) = ordered(line) else {
             return Err(Fail::new("not set"));
         };
         assert_eq!(rt; setting.parameter.code(), code);
