@@ -89,45 +89,45 @@ fn begin<I: Read + Drop, O: Write>(
         }
     }
     let Ok(Some(Row::Axis(pile))) = first else {
-        let run = Run {
+        let rows = Rows {
             heap,
             first,
             source,
             out,
         };
-        return run.on(standard(WIDE));
+        return rows.on(standard(WIDE));
     };
-    let run = Run {
+    let rows = Rows {
         heap,
         first: source.next(),
         source,
         out,
     };
     match pile {
-        Pile::Pin => run.on(PinAxis::new()),
-        Pile::Phase => run.on(PhaseAxis::new()),
-        Pile::ReversedPin => run.on(Reversed::new(PinAxis::new())),
-        Pile::ReversedPhase => run.on(Reversed::new(PhaseAxis::new())),
-        Pile::FencePin(far) => run.on(Fence::new(PinAxis::new(), far)),
-        Pile::FenceReversedPhase(far) => run.on(fenced_phase(far)),
+        Pile::Pin => rows.on(PinAxis::new()),
+        Pile::Phase => rows.on(PhaseAxis::new()),
+        Pile::ReversedPin => rows.on(Reversed::new(PinAxis::new())),
+        Pile::ReversedPhase => rows.on(Reversed::new(PhaseAxis::new())),
+        Pile::FencePin(far) => rows.on(Fence::new(PinAxis::new(), far)),
+        Pile::FenceReversedPhase(far) => rows.on(fenced_phase(far)),
         Pile::FenceFencePin { outer, inner } => {
-            run.on(Fence::new(Fence::new(PinAxis::new(), inner), outer))
+            rows.on(Fence::new(Fence::new(PinAxis::new(), inner), outer))
         }
-        Pile::Standard(far) => run.on(standard(far)),
+        Pile::Standard(far) => rows.on(standard(far)),
     }
 }
 
-// A script whose axis is known: its first row after that, and the rest.
-struct Run<'a, I, O> {
+// The rows of a script whose axis is known, the first of them in hand.
+struct Rows<'a, I, O> {
     heap: Global,
     first: Result<Option<Row>, Fault>,
     source: &'a mut Source<I>,
     out: &'a mut O,
 }
 
-impl<I: Read + Drop, O: Write> Run<'_, I, O> {
+impl<I: Read + Drop, O: Write> Rows<'_, I, O> {
     fn on<A: Axis + Drive + Drop>(self, axis: A) -> io::Result<()> {
-        let Run {
+        let Rows {
             heap,
             first,
             source,

@@ -1,10 +1,12 @@
 // The formats of the answers, worked by hand.
-use clerk::{Told, settle};
+use clerk::refusal::Refusal;
+use clerk::settle;
 use codes::program::ProgramCode;
 use orders::heard::Fields;
 use pin::drive::PinAxis;
+use program::fault::OrderFault;
 use reply::answer::Answer;
-use reply::slip::{Outcome, Slip};
+use reply::slip::Slip;
 use settings::parameter::Parameter;
 use settings::values::Settings;
 use std::process::Abort;
@@ -101,19 +103,10 @@ const FORMATS: [(Answer, &[u8]); 13] = [
 
 fn sent(rt: &impl Abort, answer: Answer, want: &[u8]) {
     let mut memory = [b'?'; 64];
-    let told = settle(Slip::new(Outcome::Accepted(answer)), &mut memory);
-    if want.is_empty() {
-        assert_eq!(rt; told, Told::Silent);
-    } else {
-        assert_eq!(rt; told, Told::Answered { count: want.len() });
-    }
-    for i in 0..64 {
-        let byte = match want.get(i) {
-            Some(byte) => *byte,
-            None => b'?',
-        };
-        assert_eq!(rt; memory[i], byte);
-    }
+    assert_eq!(rt; settle(Slip::new(Ok(answer)), &mut memory), Ok(want.len()));
+    let (text, rest) = memory.split_at(want.len());
+    assert_eq!(rt; text, want);
+    assert!(rt; rest.iter().all(|byte| *byte == b'?'));
 }
 
 #[test]
@@ -158,12 +151,20 @@ fn parameters_sent(rt: HostRuntime) -> Result<(), Fail> {
 #[test]
 fn too_little_room(rt: HostRuntime) {
     let mut memory = [b'?'; 63];
-    let told = settle(
-        Slip::new(Outcome::Accepted(Answer::Pointer { number: 1 })),
-        &mut memory,
-    );
-    assert_eq!(rt; told, Told::Refused { cause: 2, place: 0 });
-    for byte in memory {
-        assert_eq!(rt; byte, b'?');
-    }
+    let slip = Slip::new(Ok(Answer::Pointer { number: 1 }));
+    assert_eq!(rt; settle(slip, &mut memory), Err(Refusal::NoRoom));
+    assert_eq!(rt; Refusal::NoRoom.number(), 2);
+    assert_eq!(rt; Refusal::NoRoom.place(), 0);
+    assert!(rt; memory.iter().all(|byte| *byte == b'?'));
+}
+
+// A line that was refused tells its own refusal, and writes nothing.
+#[test]
+fn refused_line(rt: HostRuntime) {
+    let mut memory = [b'?'; 64];
+    let slip = Slip::new(Err(OrderFault::Busy));
+    let told = settle(slip, &mut memory);
+    assert_eq!(rt; told, Err(Refusal::Order(OrderFault::Busy)));
+    assert_eq!(rt; Refusal::Order(OrderFault::Busy).number(), 9);
+    assert!(rt; memory.iter().all(|byte| *byte == b'?'));
 }
