@@ -4,18 +4,24 @@ ghost use Rattle.axis.specs.Resolutions.{top, speed_start, acceleration_start, l
 
 use crate::interface::Axis;
 
-// Each stands as a line of its own: a shared `times::<K, A>()` would need a bound on K, and leave as many one-line callers.
-
-// S, in pulses a second.
-pub fn top_speed<A: Axis>() -> u32
-    ensures { result ≡ top A.Axis.res }
+// S, in pulses a second, at a resolution.
+pub fn top_at(resolution: u32) -> u32
+    ensures { result ≡ top resolution }
 {
-    if A::resolution() == 125 {
+    if resolution == 125 {
         1_875_000
     } else {
         115_000
     }
 }
+
+pub fn top_speed<A: Axis>() -> u32
+    ensures { result ≡ top A.Axis.res }
+{
+    top_at(A::resolution())
+}
+
+// The starting values are a line each: a shared `times::<K, A>()` would need a bound on K, and leave as many one-line callers.
 
 // Jog speed, home speed and feed, in pulses a second.
 pub fn starting_speed<A: Axis>() -> u32

@@ -9,6 +9,7 @@ use super::{OutOfRange, Settings};
 use crate::numbers::signed_direction;
 use crate::parameter::{Parameter, RunFormat};
 use axis::direction::Direction;
+use axis::speeds::top_at;
 use std::ops::RangeInclusive;
 
 const EIGHT_DIGITS: i32 = 99_999_999;
@@ -69,11 +70,7 @@ impl Settings {
     fn top_speed(&self) -> i32
         ensures { result ≡ pos (top self.now.resolution) }
     {
-        if self.resolution == 125 {
-            1_875_000
-        } else {
-            115_000
-        }
+        top_at(self.resolution) as i32
     }
 
     // Whether the number is in the parameter's range.
