@@ -32,6 +32,7 @@ pub fn home_direction(code: u32, value: i32) -> [u8; 7]
     text
 }
 
+// With the sign and without it: one function would hand out a buffer and its length, since the sign moves what stands behind it.
 pub fn signed_value(code: u32, value: i32) -> [u8; 15]
     ensures { result ≡ coded_text code true value }
 {

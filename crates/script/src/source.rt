@@ -17,8 +17,9 @@ const LONGEST: usize = 4096;
 #[derive(Drop)]
 pub struct Source<R> {
     stream: R,
+    // Read by hand: with the library's buffer the bound that an edit of must-fail/ breaks would be the library's own.
+    // What is not read yet stands from `at`, before `end`.
     chunk: [u8; 512],
-    // What of the chunk is not read yet: from `at`, before `end`.
     at: usize,
     end: usize,
     row: Vec<u8>,
@@ -38,7 +39,7 @@ impl<R: Read + Drop> Source<R> {
             chunk: [0; 512],
             at: 0,
             end: 0,
-            row: Vec::with_capacity(heap, LONGEST)?,
+            row: Vec::with_capacity(heap, LONGEST + 1)?,
             line: Vec::with_capacity(heap, LONGEST)?,
             number: 0,
         })
@@ -56,27 +57,24 @@ impl<R: Read + Drop> Source<R> {
         ensures { self.new.number ≡ (if counted result then min (self.old.number + 1) (2 ^ 64 - 1) else self.old.number) }
     {
         self.row.clear();
-        let mut long = false;
-        let mut empty = true;
-        // A stream has no end that a proof could name.
+        let Some(mut byte) = self.byte()? else {
+            return Ok(None);
+        };
+        // Counted, since a loop with no bound wants a handle that waits, and none is allowed.
         for _ in 0..u64::MAX {
-            let Some(byte) = self.byte()? else {
-                break;
-            };
-            empty = false;
             if byte == b'\n' {
                 break;
             }
-            if self.row.len() < LONGEST {
+            // One byte past the longest is kept, to tell that the row is too long.
+            if self.row.len() <= LONGEST {
                 self.row.push(byte)?;
-            } else {
-                long = true;
             }
+            let Some(next) = self.byte()? else {
+                break;
+            };
+            byte = next;
         }
-        if empty {
-            return Ok(None);
-        }
-        let read = if long {
+        let read = if self.row.len() > LONGEST {
             Err(Fault::Mistake(Mistake::Long))
         } else {
             self.meant()
