@@ -3,9 +3,9 @@ use Rattle.std.proofs.Common.{◌≡◌, ℕ, zero, suc, ◌-◌, true, List, []
 use Rattle.codes.specs.Program.{code}
 use Rattle.codes.specs.declared.program.ProgramCode.{ProgramCode}
 use Rattle.scan.specs.Numbers.{digit, digits}
-use Rattle.scan.specs.Runs.{past}
-use Rattle.words.specs.Bytes.{blank}
-use Rattle.words.specs.Words.{Spelled}
+use Rattle.scan.specs.Runs.{span, past}
+use Rattle.words.specs.Bytes.{blank, letter}
+use Rattle.words.specs.Words.{Spelled, word_of, behind}
 use Rattle.words.specs.Checking.{first_bad}
 use Rattle.words.specs.Listing.{listed}
 use Rattle.words.specs.declared.word.Sign.{Sign}
@@ -23,43 +23,33 @@ pub record Reads (k n : ℕ) (bs : List ℕ) (ws : List Spelled) : Type 0 where
 abbrev pub word : ℕ → ℕ → Option Sign → List ℕ → Spelled
 word c p s ds = record { letter = c; place = p; code = []; sign = s; digits = ds }
 
--- a word before a blank: its letter, what may stand before its digits, and these
+-- a word: its letter c, what stands behind that, and there the digits ds with after behind them
+module _ (k n c : ℕ) (s : Option Sign) (zs digits_on ds after : List ℕ) (ws : List Spelled) (opens : letter c ≡ true) (starts : past blank (c ∷ zs) ≡ c ∷ zs) where
+  one_word : word_of (n - length zs) c zs ≡ word c (n - length zs) s (span digit digits_on) → behind c zs ≡ past digit digits_on → span digit digits_on ≡ ds → past digit digits_on ≡ after → Reads k n after ws
+      → Reads (suc k) n (c ∷ zs) (word c (n - length zs) s ds ∷ ws)
+  one_word is rest spans passes on = record {
+    words = ap (words_from k n) starts ∙ words_here k n c zs opens ∙ ap (λ w. w ∷ listed k n (behind c zs)) (is ∙ ap (word c (n - length zs) s) spans)
+        ∙ ap (λ bs. word c (n - length zs) s ds ∷ listed k n bs) (rest ∙ passes)
+        ∙ ap (λ (vs : List Spelled). word c (n - length zs) s ds ∷ vs) on.words;
+    good = ap (bad_from k n) starts ∙ goes_on k n c zs opens ∙ ap (first_bad k n) (rest ∙ passes) ∙ on.good;
+  }
+
+-- before a blank
 module _ (k n : ℕ) (ds rest : List ℕ) (ws : List Spelled) (all : digits ds ≡ true) (on : Reads k n (32 ∷ rest) ws) where
-  n_word : Reads (suc k) n (78 ∷ (ds ++ 32 ∷ rest)) (word 78 (n - length (ds ++ 32 ∷ rest)) None ds ∷ ws)
-  n_word = record {
-    words = words_here k n 78 (ds ++ 32 ∷ rest) refl
-        ∙ ap (λ bs. word 78 (n - length (ds ++ 32 ∷ rest)) None bs ∷ listed k n (past digit (ds ++ 32 ∷ rest))) (span_blank ds rest all)
-        ∙ ap (λ bs. word 78 (n - length (ds ++ 32 ∷ rest)) None ds ∷ listed k n bs) (past_digits ds rest all)
-        ∙ ap (λ (vs : List Spelled). word 78 (n - length (ds ++ 32 ∷ rest)) None ds ∷ vs) on.words;
-    good = goes_on k n 78 (ds ++ 32 ∷ rest) refl ∙ ap (first_bad k n) (past_digits ds rest all) ∙ on.good;
-  }
+  abbrev tail : List ℕ
+  tail = ds ++ 32 ∷ rest
 
-  g_word : Reads (suc k) n (71 ∷ (ds ++ 32 ∷ rest)) (word 71 (n - length (ds ++ 32 ∷ rest)) None ds ∷ ws)
-  g_word = record {
-    words = words_here k n 71 (ds ++ 32 ∷ rest) refl
-        ∙ ap (λ bs. word 71 (n - length (ds ++ 32 ∷ rest)) None bs ∷ listed k n (past digit (ds ++ 32 ∷ rest))) (span_blank ds rest all)
-        ∙ ap (λ bs. word 71 (n - length (ds ++ 32 ∷ rest)) None ds ∷ listed k n bs) (past_digits ds rest all)
-        ∙ ap (λ (vs : List Spelled). word 71 (n - length (ds ++ 32 ∷ rest)) None ds ∷ vs) on.words;
-    good = goes_on k n 71 (ds ++ 32 ∷ rest) refl ∙ ap (first_bad k n) (past_digits ds rest all) ∙ on.good;
-  }
+  n_word : Reads (suc k) n (78 ∷ tail) (word 78 (n - length tail) None ds ∷ ws)
+  n_word = one_word k n 78 None tail tail ds (32 ∷ rest) ws refl refl refl refl (span_blank ds rest all) (past_digits ds rest all) on
 
-  plus_word : Reads (suc k) n (88 ∷ 43 ∷ (ds ++ 32 ∷ rest)) (word 88 (n - length (43 ∷ (ds ++ 32 ∷ rest))) (Some Plus) ds ∷ ws)
-  plus_word = record {
-    words = words_here k n 88 (43 ∷ (ds ++ 32 ∷ rest)) refl
-        ∙ ap (λ bs. word 88 (n - length (43 ∷ (ds ++ 32 ∷ rest))) (Some Plus) bs ∷ listed k n (past digit (ds ++ 32 ∷ rest))) (span_blank ds rest all)
-        ∙ ap (λ bs. word 88 (n - length (43 ∷ (ds ++ 32 ∷ rest))) (Some Plus) ds ∷ listed k n bs) (past_digits ds rest all)
-        ∙ ap (λ (vs : List Spelled). word 88 (n - length (43 ∷ (ds ++ 32 ∷ rest))) (Some Plus) ds ∷ vs) on.words;
-    good = goes_on k n 88 (43 ∷ (ds ++ 32 ∷ rest)) refl ∙ ap (first_bad k n) (past_digits ds rest all) ∙ on.good;
-  }
+  g_word : Reads (suc k) n (71 ∷ tail) (word 71 (n - length tail) None ds ∷ ws)
+  g_word = one_word k n 71 None tail tail ds (32 ∷ rest) ws refl refl refl refl (span_blank ds rest all) (past_digits ds rest all) on
 
-  minus_word : Reads (suc k) n (88 ∷ 45 ∷ (ds ++ 32 ∷ rest)) (word 88 (n - length (45 ∷ (ds ++ 32 ∷ rest))) (Some Minus) ds ∷ ws)
-  minus_word = record {
-    words = words_here k n 88 (45 ∷ (ds ++ 32 ∷ rest)) refl
-        ∙ ap (λ bs. word 88 (n - length (45 ∷ (ds ++ 32 ∷ rest))) (Some Minus) bs ∷ listed k n (past digit (ds ++ 32 ∷ rest))) (span_blank ds rest all)
-        ∙ ap (λ bs. word 88 (n - length (45 ∷ (ds ++ 32 ∷ rest))) (Some Minus) ds ∷ listed k n bs) (past_digits ds rest all)
-        ∙ ap (λ (vs : List Spelled). word 88 (n - length (45 ∷ (ds ++ 32 ∷ rest))) (Some Minus) ds ∷ vs) on.words;
-    good = goes_on k n 88 (45 ∷ (ds ++ 32 ∷ rest)) refl ∙ ap (first_bad k n) (past_digits ds rest all) ∙ on.good;
-  }
+  plus_word : Reads (suc k) n (88 ∷ 43 ∷ tail) (word 88 (n - length (43 ∷ tail)) (Some Plus) ds ∷ ws)
+  plus_word = one_word k n 88 (Some Plus) (43 ∷ tail) tail ds (32 ∷ rest) ws refl refl refl refl (span_blank ds rest all) (past_digits ds rest all) on
+
+  minus_word : Reads (suc k) n (88 ∷ 45 ∷ tail) (word 88 (n - length (45 ∷ tail)) (Some Minus) ds ∷ ws)
+  minus_word = one_word k n 88 (Some Minus) (45 ∷ tail) tail ds (32 ∷ rest) ws refl refl refl refl (span_blank ds rest all) (past_digits ds rest all) on
 
 -- blanks in front change nothing
 abbrev blanks : ℕ → List ℕ → List ℕ
@@ -81,13 +71,7 @@ nothing_left (suc k) n = record { words = refl; good = refl }
 
 -- the last word
 f_word : (k n : ℕ) (ds : List ℕ) → digits ds ≡ true → Reads (suc k) n (70 ∷ ds) (word 70 (n - length ds) None ds ∷ [])
-f_word k n ds all = record {
-  words = words_here k n 70 ds refl
-      ∙ ap (λ bs. word 70 (n - length ds) None bs ∷ listed k n (past digit ds)) (span_end ds all)
-      ∙ ap (λ bs. word 70 (n - length ds) None ds ∷ listed k n bs) (past_end ds all)
-      ∙ ap (λ (vs : List Spelled). word 70 (n - length ds) None ds ∷ vs) (nothing_left k n).words;
-  good = goes_on k n 70 ds refl ∙ ap (first_bad k n) (past_end ds all) ∙ (nothing_left k n).good;
-}
+f_word k n ds all = one_word k n 70 None ds ds ds [] [] refl refl refl refl (span_end ds all) (past_end ds all) (nothing_left k n)
 
 abbrev pub sign_word : ℤ → Option Sign
 sign_word (pos n) = Some Plus

@@ -1,4 +1,4 @@
-use Rattle.std.proofs.Common.{◌≡◌, suc, ◌+◌, ◌%◌, length, [], ◌∷◌, ◌++◌, sym, ap, ◌∙◌, arith}
+use Rattle.std.proofs.Common.{◌≡◌, suc, ◌+◌, ◌%◌, length, [], ◌∷◌, ◌++◌, ap, ◌∙◌, arith}
 use Rattle.reply.specs.Texts.{padded}
 use Rattle.reply.proofs.Padding.{padded_last}
 use Rattle.reply.proofs.digits.+put_digits.Goals as goal
