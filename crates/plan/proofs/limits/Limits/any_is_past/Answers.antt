@@ -9,7 +9,7 @@ pub overflow_add-end : goal.overflow_add-end
 overflow_add-end c =
     let pulses : to_z w64 (of_z w64 c.in-Some.leg.pulses) ≡ c.in-Some.leg.pulses = search rules in
     let flat = c.flatten-leg-items.ensures in
-    let road = gives c.args.legs _ (λ x j b. b.0) c.iter.ensures.rest c.copied.ensures.source flat.source flat.front flat.back flat.done c.into_iter-leg-iterator.ensures.into_iter_gives in
+    let road = gives c.args.legs _ (λ x j b. b.0) (cc) c.copied.ensures.source flat.source flat.front flat.back flat.done c.into_iter-leg-iterator.ensures.into_iter_gives in
     let turn = YieldsList-turn road c.loop-leg.yielded _ c.loop-leg.yielded_by _ _ c.in-Some.leg c.in-Some.is c.next.ensures.steps in
     let next = goes (past_limit c.args.self.clockwise c.args.self.counterclockwise) c.args.legs _ _ c.in-Some.leg c.loop-leg.invariant.near turn in
     rw pulses next.small
@@ -19,7 +19,7 @@ returns-then-is_past c =
     let counter : to_z w32 (of_z w32 c.args.counter) ≡ c.args.counter = search rules in
     let pulses : to_z w64 (of_z w64 c.in-Some.leg.pulses) ≡ c.in-Some.leg.pulses = search rules in
     let flat = c.flatten-leg-items.ensures in
-    let road = gives c.args.legs _ (λ x j b. b.0) c.iter.ensures.rest c.copied.ensures.source flat.source flat.front flat.back flat.done c.into_iter-leg-iterator.ensures.into_iter_gives in
+    let road = gives c.args.legs _ (λ x j b. b.0) (cc) c.copied.ensures.source flat.source flat.front flat.back flat.done c.into_iter-leg-iterator.ensures.into_iter_gives in
     let turn = YieldsList-turn road c.loop-leg.yielded _ c.loop-leg.yielded_by _ _ c.in-Some.leg c.in-Some.is c.next.ensures.steps in
     let past = past_limit c.args.self.clockwise c.args.self.counterclockwise in
     let leg = c.in-Some.leg in
@@ -32,7 +32,7 @@ pub loop-leg-preserved : goal.loop-leg-preserved
 loop-leg-preserved c =
     let pulses : to_z w64 (of_z w64 c.in-Some.leg.pulses) ≡ c.in-Some.leg.pulses = search rules in
     let flat = c.flatten-leg-items.ensures in
-    let road = gives c.args.legs _ (λ x j b. b.0) c.iter.ensures.rest c.copied.ensures.source flat.source flat.front flat.back flat.done c.into_iter-leg-iterator.ensures.into_iter_gives in
+    let road = gives c.args.legs _ (λ x j b. b.0) (cc) c.copied.ensures.source flat.source flat.front flat.back flat.done c.into_iter-leg-iterator.ensures.into_iter_gives in
     let turn = YieldsList-turn road c.loop-leg.yielded _ c.loop-leg.yielded_by _ _ c.in-Some.leg c.in-Some.is c.next.ensures.steps in
     let past = past_limit c.args.self.clockwise c.args.self.counterclockwise in
     let leg = c.in-Some.leg in
@@ -45,7 +45,7 @@ pub returns : goal.returns
 returns c =
     let counter : to_z w32 (of_z w32 c.args.counter) ≡ c.args.counter = search rules in
     let flat = c.flatten-leg-items.ensures in
-    let road = gives c.args.legs _ (λ x j b. b.0) c.iter.ensures.rest c.copied.ensures.source flat.source flat.front flat.back flat.done c.into_iter-leg-iterator.ensures.into_iter_gives in
+    let road = gives c.args.legs _ (λ x j b. b.0) (cc) c.copied.ensures.source flat.source flat.front flat.back flat.done c.into_iter-leg-iterator.ensures.into_iter_gives in
     let all = YieldsList-end road c.loop-leg.yielded _ c.loop-leg.yielded_by _ _ c.in-None.is c.next.ensures.steps in
     let left = any_left (past_limit c.args.self.clockwise c.args.self.counterclockwise) (to_z w64 c.loop-leg.end-bits) in
     sym (rw counter at c.loop-leg.invariant.rest ∙ at_drop_all left (walked c.args.legs) (length c.loop-leg.yielded) (omega (arith, all.1)))
