@@ -2,7 +2,7 @@
 use orders::heard::Fields;
 use settings::parameter::Parameter;
 
-#[derive(Clone, Copy)]
+#[derive(Clone, Copy, PartialEq, Eq, Debug)]
 pub enum Answer {
     // Silence.
     Nothing,
