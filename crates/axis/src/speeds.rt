@@ -4,6 +4,8 @@ ghost use Rattle.axis.specs.Resolutions.{top, speed_start, acceleration_start, l
 
 use crate::interface::Axis;
 
+// Each stands as a line of its own: a shared `times::<K, A>()` would need a bound on K, and leave as many one-line callers.
+
 // S, in pulses a second.
 pub fn top_speed<A: Axis>() -> u32
     ensures { result ≡ top A.Axis.res }

@@ -10,14 +10,12 @@ pub fn stroke<A: Axis>(axis: &mut A, way: Direction, n: u32) -> u32
     ensures taken { pos result ≡ reach way n (stand A.Axis axis.old) }
     ensures after { stand A.Axis axis.new ≡ along way result (stand A.Axis axis.old) }
 {
-    let mut taken = 0;
-    while taken < n {
+    for taken in 0..n {
         if !axis.pulse(way) {
             return taken;
         }
-        taken += 1;
     }
-    taken
+    n
 }
 
 // Up to n pulses one way and as many back: the axis stands where it stood.

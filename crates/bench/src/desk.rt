@@ -8,25 +8,16 @@ use orders::order::Order;
 use program::clearing::clear;
 use program::fault::OrderFault;
 use program::number::LineNumber;
-use program::taken::Taken;
 use program::taking::take;
 use reply::answer::Answer;
 use reply::sending::{send_line, send_parameter, send_pointer};
-use reply::slip::{Outcome, Refusal, Slip};
+use reply::slip::Slip;
 use settings::values::Settings;
 
 #[derive(Drop)]
 pub struct Desk {
     settings: Settings,
     pointer: LineNumber,
-}
-
-fn refused(fault: OrderFault) -> Outcome {
-    Outcome::Refused(Refusal {
-        cause: fault.number(),
-        place: fault.place(),
-        layer: fault.layer(),
-    })
 }
 
 impl Desk {
@@ -45,45 +36,44 @@ impl Desk {
     pub fn line(&mut self, lines: &mut [Fields], line: &[u8]) -> Option<Slip>
         ensures { IfSome result (λ s. s.settled ≡ false) }
     {
-        let outcome = match take(lines, self.pointer, line, &self.settings, false) {
-            Ok(taken) => self.perform(taken, lines)?,
-            Err(fault) => refused(fault),
-        };
-        Some(Slip::new(outcome))
+        self.perform(lines, line).transpose().map(Slip::new)
     }
 
-    fn perform(&mut self, taken: Taken, lines: &mut [Fields]) -> Option<Outcome> {
+    // The answer to a line; none where it cannot be taken yet.
+    fn perform(&mut self, lines: &mut [Fields], line: &[u8]) -> Result<Option<Answer>, OrderFault> {
+        let taken = take(lines, self.pointer, line, &self.settings, false)?;
         match taken.order {
-            Order::Point { .. } => {
+            Order::Point { .. } | Order::Store { .. } => {
                 self.pointer = taken.line;
-                Some(Outcome::Accepted(Answer::Nothing))
-            }
-            Order::Store { .. } => {
-                self.pointer = taken.line;
-                Some(Outcome::Accepted(Answer::Nothing))
+                Ok(Some(Answer::Nothing))
             }
             Order::Set { setting } => {
+                // It was found in its range when the line was read.
                 let _ = self.settings.set(setting.parameter, setting.number);
-                Some(Outcome::Accepted(Answer::Nothing))
+                Ok(Some(Answer::Nothing))
             }
-            Order::Act { code, .. } => self.act(code, taken.line, lines),
-            Order::Transfer { code } => self.act(code, taken.line, lines),
-            _ => None,
+            Order::Act { code, .. } | Order::Transfer { code } => self.act(code, taken.line, lines),
+            _ => Ok(None),
         }
     }
 
-    fn act(&mut self, code: HostCode, line: LineNumber, lines: &mut [Fields]) -> Option<Outcome> {
-        let outcome = match code {
-            HostCode::ClearLine => match clear(lines, line) {
-                Ok(()) => Outcome::Accepted(Answer::Nothing),
-                Err(fault) => refused(fault),
-            },
-            HostCode::SendLine => Outcome::Accepted(send_line(lines, line)),
-            HostCode::SendPointer => Outcome::Accepted(send_pointer(line)),
-            HostCode::SendParameter => Outcome::Accepted(send_parameter(&self.settings)),
-            _ => return None,
+    fn act(
+        &mut self,
+        code: HostCode,
+        line: LineNumber,
+        lines: &mut [Fields],
+    ) -> Result<Option<Answer>, OrderFault> {
+        let answer = match code {
+            HostCode::ClearLine => {
+                clear(lines, line)?;
+                Answer::Nothing
+            }
+            HostCode::SendLine => send_line(lines, line),
+            HostCode::SendPointer => send_pointer(line),
+            HostCode::SendParameter => send_parameter(&self.settings),
+            _ => return Ok(None),
         };
         self.pointer = line;
-        Some(outcome)
+        Ok(Some(answer))
     }
 }

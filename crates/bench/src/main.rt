@@ -1,23 +1,26 @@
 // Runs a bench script from standard input on the axis that it names, and prints what each row did.
 #![tactic(auto)]
 
-mod answer;
 mod desk;
+mod lent;
 mod session;
+mod travel;
 #[cfg(test)]
 mod worksheet;
 
 use anyhow::anyhow;
-use axis::direction::Direction;
+use axis::display::Drive;
+use axis::interface::Axis;
+use layers::allowance::Allowance;
 use layers::fence::Fence;
 use layers::reversed::Reversed;
 use phase::drive::PhaseAxis;
 use piles::shipped::{fenced_phase, standard};
 use pin::drive::PinAxis;
-use script::mistake::Mistake;
+use script::fault::Fault;
 use script::row::{Pile, Row};
 use script::source::Source;
-use session::serve;
+use session::Session;
 use std::alloc::Global;
 use std::io::{BufWriter, Read, Write};
 use std::{env, io};
@@ -47,21 +50,21 @@ const HELP: &str = "bench: runs a bench script from standard input and prints wh
 A row that cannot be read is answered with its number and what is wrong, and the run goes on.";
 
 // The widest fence, where the script names no axis.
-const WIDE: u32 = 1_000_000_000;
+const WIDE: Allowance = Allowance {
+    down: 1_000_000_000,
+    up: 1_000_000_000,
+};
 
 fn main(rt: HostRuntime) -> anyhow::Result<()> {
     run(&rt)
 }
 
 fn run(rt: &HostRuntime) -> anyhow::Result<()> {
-    let mut asked = false;
-    for word in env::args(rt)?.skip(1) {
-        if word.as_str() != "--help" {
-            return Err(anyhow!("no such argument: there is --help"));
-        }
-        asked = true;
+    let words: Vec<String> = env::args(rt)?.skip(1).collect(rt.alloc())?;
+    if words.iter().any(|word| word.as_str() != "--help") {
+        return Err(anyhow!("no such argument: there is --help"));
     }
-    if asked {
+    if !words.is_empty() {
         println!(rt; "{HELP}")?;
         return Ok(());
     }
@@ -72,52 +75,81 @@ fn run(rt: &HostRuntime) -> anyhow::Result<()> {
     Ok(())
 }
 
-// Makes the axis that the first row names, and serves the other rows on it.
+// Makes the axis that the first row names, and does the other rows on it.
 fn begin<I: Read + Drop, O: Write>(
     heap: Global,
     source: &mut Source<I>,
     out: &mut O,
 ) -> io::Result<()> {
-    let mut first = source.next()?;
+    let mut first = source.next();
     for _ in 0..u64::MAX {
         match first {
-            Some(Ok(Row::Remark)) => first = source.next()?,
+            Ok(Some(Row::Remark)) => first = source.next(),
             _ => break,
         }
     }
-    let Some(Ok(Row::Axis(pile))) = first else {
-        return serve(heap, standard(WIDE, WIDE), first, source, out);
+    let Ok(Some(Row::Axis(pile))) = first else {
+        let run = Run {
+            heap,
+            first,
+            source,
+            out,
+        };
+        return run.on(standard(WIDE));
     };
-    let next = source.next()?;
+    let run = Run {
+        heap,
+        first: source.next(),
+        source,
+        out,
+    };
     match pile {
-        Pile::Pin => serve(heap, PinAxis::new(), next, source, out),
-        Pile::Phase => serve(heap, PhaseAxis::new(), next, source, out),
-        Pile::ReversedPin => serve(heap, Reversed::new(PinAxis::new()), next, source, out),
-        Pile::ReversedPhase => serve(heap, Reversed::new(PhaseAxis::new()), next, source, out),
-        Pile::FencePin(far) => serve(
-            heap,
-            Fence::new(PinAxis::new(), far.down, far.up),
-            next,
-            source,
-            out,
-        ),
-        Pile::FenceReversedPhase(far) => serve(
-            heap,
-            fenced_phase(far.down, far.up),
-            next,
-            source,
-            out,
-        ),
+        Pile::Pin => run.on(PinAxis::new()),
+        Pile::Phase => run.on(PhaseAxis::new()),
+        Pile::ReversedPin => run.on(Reversed::new(PinAxis::new())),
+        Pile::ReversedPhase => run.on(Reversed::new(PhaseAxis::new())),
+        Pile::FencePin(far) => run.on(Fence::new(PinAxis::new(), far)),
+        Pile::FenceReversedPhase(far) => run.on(fenced_phase(far)),
         Pile::FenceFencePin { outer, inner } => {
-            let fenced = Fence::new(PinAxis::new(), inner.down, inner.up);
-            serve(
-                heap,
-                Fence::new(fenced, outer.down, outer.up),
-                next,
-                source,
-                out,
-            )
+            run.on(Fence::new(Fence::new(PinAxis::new(), inner), outer))
         }
-        Pile::Standard(far) => serve(heap, standard(far.down, far.up), next, source, out),
+        Pile::Standard(far) => run.on(standard(far)),
+    }
+}
+
+// A script whose axis is known: its first row after that, and the rest.
+struct Run<'a, I, O> {
+    heap: Global,
+    first: Result<Option<Row>, Fault>,
+    source: &'a mut Source<I>,
+    out: &'a mut O,
+}
+
+impl<I: Read + Drop, O: Write> Run<'_, I, O> {
+    fn on<A: Axis + Drive + Drop>(self, axis: A) -> io::Result<()> {
+        let Run {
+            heap,
+            first,
+            source,
+            out,
+        } = self;
+        let mut session = Session::new(heap, axis)?;
+        let mut next = first;
+        for _ in 0..u64::MAX {
+            let done = match next {
+                Ok(None) => break,
+                Ok(Some(row)) => session.perform(row, source.line(), out),
+                Err(fault) => Err(fault),
+            };
+            match done {
+                Ok(()) => {}
+                Err(Fault::Mistake(mistake)) => {
+                    writeln!(out, "row {}: {mistake}", source.number())?;
+                }
+                Err(Fault::Io(error)) => return Err(error),
+            }
+            next = source.next();
+        }
+        Ok(())
     }
 }

@@ -4,37 +4,21 @@
 ghost use Rattle.std.specs.Prelude.{◌≡◌, false, length};
 ghost use Rattle.clerk.specs.Tellings.{told, written};
 
+use crate::refusal::Refusal;
 use reply::slip::Slip;
 
-// What a host hears of its line.
-#[derive(Clone, Copy, PartialEq, Eq, Debug)]
-pub enum Told {
-    // So many bytes at the front of the answer memory.
-    Answered { count: usize },
-    Silent,
-    Refused { cause: u8, place: usize },
-}
+pub mod refusal;
 
-// A refused line tells its own refusal, whatever the memory; an accepted one is refused 2 under 64 bytes.
-pub fn settle(mut slip: Slip, out: &mut [u8]) -> Told
+// How many bytes the answer has at the front of its memory, 0 for silence. A refused line tells its own refusal, whatever the memory.
+pub fn settle(mut slip: Slip, out: &mut [u8]) -> Result<usize, Refusal>
     requires { slip.settled ≡ false }
     ensures told { result ≡ told (length out.old) slip.outcome }
     ensures written { out.new ≡ written slip.outcome out.old }
 {
     let refusal = slip.refusal();
     let settled = slip.settle(out);
-    if let Some(refusal) = refusal {
-        return Told::Refused {
-            cause: refusal.cause,
-            place: refusal.place,
-        };
-    }
-    match settled {
-        Ok(0) => Told::Silent,
-        Ok(count) => Told::Answered { count },
-        Err(short) => Told::Refused {
-            cause: short.number(),
-            place: 0,
-        },
+    match refusal {
+        Some(fault) => Err(Refusal::Order(fault)),
+        None => Ok(settled?),
     }
 }

@@ -1,5 +1,7 @@
 -- What a host line orders: H and two digits.
-use Rattle.std.specs.Prelude.{ℕ, Bool, true, false}
+use Rattle.std.specs.Prelude.{◌≡◌, ℕ, refl, Some, List, Bool, true, false}
+use Rattle.codes.specs.Coded.{coded_among}
+use Rattle.codes.specs.declared.host.TheConstants.{ALL}
 use Rattle.codes.specs.declared.host.HostCode.{HostCode}
 use Rattle.codes.specs.declared.host.HostCode.TheVariants.{Start, StepMode, JogMode, HighSpeed, LowSpeed, Clockwise, Counterclockwise, ReturnToZero, ZeroCounter, HomeSearch, ClearLine, SendLine, SendPointer, SendParameter, SendPosition, SendStatus, SendOutputs, SendInputs, Incremental, Absolute, WindingsOn, WindingsOff}
 
@@ -51,3 +53,32 @@ transfers Incremental = false
 transfers Absolute = false
 transfers WindingsOn = false
 transfers WindingsOff = false
+
+unfoldable pub codes : List HostCode
+codes = ALL
+
+-- each is found by its number
+pub found : (c : HostCode) → coded_among code codes (code c) ≡ Some c
+unfolding codes
+found Start = refl
+found StepMode = refl
+found JogMode = refl
+found HighSpeed = refl
+found LowSpeed = refl
+found Clockwise = refl
+found Counterclockwise = refl
+found ReturnToZero = refl
+found ZeroCounter = refl
+found HomeSearch = refl
+found ClearLine = refl
+found SendLine = refl
+found SendPointer = refl
+found SendParameter = refl
+found SendPosition = refl
+found SendStatus = refl
+found SendOutputs = refl
+found SendInputs = refl
+found Incremental = refl
+found Absolute = refl
+found WindingsOn = refl
+found WindingsOff = refl

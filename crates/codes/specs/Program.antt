@@ -1,5 +1,7 @@
 -- What a line of a program does: G and two digits.
-use Rattle.std.specs.Prelude.{ℕ}
+use Rattle.std.specs.Prelude.{◌≡◌, ℕ, refl, Some, List}
+use Rattle.codes.specs.Coded.{coded_among}
+use Rattle.codes.specs.declared.program.TheConstants.{ALL}
 use Rattle.codes.specs.declared.program.ProgramCode.{ProgramCode}
 use Rattle.codes.specs.declared.program.ProgramCode.TheVariants.{Dwell, Call, Jump, Branch, Await, OpenLoop, CloseLoop, HighSpeed, LowSpeed, SetParameter, EndRun, Halt, Return, SetOutputs, ReturnToZero, ZeroCounter, Absolute, Incremental}
 
@@ -22,3 +24,28 @@ code ReturnToZero = 76
 code ZeroCounter = 77
 code Absolute = 90
 code Incremental = 91
+
+unfoldable pub codes : List ProgramCode
+codes = ALL
+
+-- each is found by its number
+pub found : (c : ProgramCode) → coded_among code codes (code c) ≡ Some c
+unfolding codes
+found Dwell = refl
+found Call = refl
+found Jump = refl
+found Branch = refl
+found Await = refl
+found OpenLoop = refl
+found CloseLoop = refl
+found HighSpeed = refl
+found LowSpeed = refl
+found SetParameter = refl
+found EndRun = refl
+found Halt = refl
+found Return = refl
+found SetOutputs = refl
+found ReturnToZero = refl
+found ZeroCounter = refl
+found Absolute = refl
+found Incremental = refl

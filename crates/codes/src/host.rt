@@ -1,108 +1,102 @@
 // What a host line orders: H and two digits.
-ghost use Rattle.std.specs.Prelude.{◌≡◌, MatchOption, ◌≢◌};
-ghost use Rattle.codes.specs.Host.{code, transfers};
-ghost use Rattle.codes.specs.declared.host.HostCode.{HostCode};
+ghost use Rattle.std.specs.Prelude.{◌≡◌};
+ghost use Rattle.codes.specs.Coded.{Names};
+ghost use Rattle.codes.specs.Host.{code, codes, found, transfers};
+
+use crate::coded::{Coded, UnknownCode};
 
 #[derive(Clone, Copy, PartialEq, Eq, Debug)]
 pub enum HostCode {
-    Start,
-    StepMode,
-    JogMode,
-    HighSpeed,
-    LowSpeed,
-    Clockwise,
-    Counterclockwise,
-    ReturnToZero,
-    ZeroCounter,
-    HomeSearch,
-    ClearLine,
-    SendLine,
-    SendPointer,
-    SendParameter,
-    SendPosition,
-    SendStatus,
-    SendOutputs,
-    SendInputs,
-    Incremental,
-    Absolute,
-    WindingsOn,
-    WindingsOff,
+    Start = 1,
+    StepMode = 2,
+    JogMode = 3,
+    HighSpeed = 4,
+    LowSpeed = 5,
+    Clockwise = 6,
+    Counterclockwise = 7,
+    ReturnToZero = 8,
+    ZeroCounter = 9,
+    HomeSearch = 10,
+    ClearLine = 11,
+    SendLine = 13,
+    SendPointer = 15,
+    SendParameter = 16,
+    SendPosition = 17,
+    SendStatus = 19,
+    SendOutputs = 20,
+    SendInputs = 21,
+    Incremental = 33,
+    Absolute = 34,
+    WindingsOn = 35,
+    WindingsOff = 36,
+}
+
+const ALL: [HostCode; 22] = [
+    HostCode::Start,
+    HostCode::StepMode,
+    HostCode::JogMode,
+    HostCode::HighSpeed,
+    HostCode::LowSpeed,
+    HostCode::Clockwise,
+    HostCode::Counterclockwise,
+    HostCode::ReturnToZero,
+    HostCode::ZeroCounter,
+    HostCode::HomeSearch,
+    HostCode::ClearLine,
+    HostCode::SendLine,
+    HostCode::SendPointer,
+    HostCode::SendParameter,
+    HostCode::SendPosition,
+    HostCode::SendStatus,
+    HostCode::SendOutputs,
+    HostCode::SendInputs,
+    HostCode::Incremental,
+    HostCode::Absolute,
+    HostCode::WindingsOn,
+    HostCode::WindingsOff,
+];
+
+impl Coded for HostCode {
+    ghost code = { code };
+
+    ghost all = { codes };
+
+    ghost found = { found };
+
+    #[tactic(auto, unfolding(crate::specs::Host::codes))]
+    fn all() -> &'static [HostCode] {
+        &ALL
+    }
+
+    fn code(self) -> u8 {
+        self as u8
+    }
+}
+
+impl TryFrom<u32> for HostCode {
+    type Error = UnknownCode;
+
+    ghost try_from_gives = { Names code };
+
+    fn try_from(number: u32) -> Result<HostCode, UnknownCode> {
+        HostCode::coded(number).ok_or(UnknownCode(number))
+    }
 }
 
 impl HostCode {
-    pub fn code(self) -> u8
-        ensures { result ≡ code self }
-    {
-        match self {
-            HostCode::Start => 1,
-            HostCode::StepMode => 2,
-            HostCode::JogMode => 3,
-            HostCode::HighSpeed => 4,
-            HostCode::LowSpeed => 5,
-            HostCode::Clockwise => 6,
-            HostCode::Counterclockwise => 7,
-            HostCode::ReturnToZero => 8,
-            HostCode::ZeroCounter => 9,
-            HostCode::HomeSearch => 10,
-            HostCode::ClearLine => 11,
-            HostCode::SendLine => 13,
-            HostCode::SendPointer => 15,
-            HostCode::SendParameter => 16,
-            HostCode::SendPosition => 17,
-            HostCode::SendStatus => 19,
-            HostCode::SendOutputs => 20,
-            HostCode::SendInputs => 21,
-            HostCode::Incremental => 33,
-            HostCode::Absolute => 34,
-            HostCode::WindingsOn => 35,
-            HostCode::WindingsOff => 36,
-        }
-    }
-
-    // None where no H code has the number.
-    pub fn coded(number: u32) -> Option<HostCode>
-        ensures { MatchOption result ((c : HostCode) → code c ≢ number) (λ c. code c ≡ number) }
-    {
-        match number {
-            1 => Some(HostCode::Start),
-            2 => Some(HostCode::StepMode),
-            3 => Some(HostCode::JogMode),
-            4 => Some(HostCode::HighSpeed),
-            5 => Some(HostCode::LowSpeed),
-            6 => Some(HostCode::Clockwise),
-            7 => Some(HostCode::Counterclockwise),
-            8 => Some(HostCode::ReturnToZero),
-            9 => Some(HostCode::ZeroCounter),
-            10 => Some(HostCode::HomeSearch),
-            11 => Some(HostCode::ClearLine),
-            13 => Some(HostCode::SendLine),
-            15 => Some(HostCode::SendPointer),
-            16 => Some(HostCode::SendParameter),
-            17 => Some(HostCode::SendPosition),
-            19 => Some(HostCode::SendStatus),
-            20 => Some(HostCode::SendOutputs),
-            21 => Some(HostCode::SendInputs),
-            33 => Some(HostCode::Incremental),
-            34 => Some(HostCode::Absolute),
-            35 => Some(HostCode::WindingsOn),
-            36 => Some(HostCode::WindingsOff),
-            _ => None,
-        }
-    }
-
     // Whether it asks for an answer and changes nothing.
     pub fn is_transfer(self) -> bool
         ensures { result ≡ transfers self }
     {
-        match self {
-            HostCode::SendLine => true,
-            HostCode::SendPointer => true,
-            HostCode::SendParameter => true,
-            HostCode::SendPosition => true,
-            HostCode::SendStatus => true,
-            HostCode::SendOutputs => true,
-            HostCode::SendInputs => true,
-            _ => false,
-        }
+        matches!(
+            self,
+            HostCode::SendLine
+                | HostCode::SendPointer
+                | HostCode::SendParameter
+                | HostCode::SendPosition
+                | HostCode::SendStatus
+                | HostCode::SendOutputs
+                | HostCode::SendInputs
+        )
     }
 }

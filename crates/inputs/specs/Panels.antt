@@ -1,9 +1,11 @@
 -- All switches of the board.
-use Rattle.std.specs.Prelude.{Bool, cond, not, ◌&&◌, Some, None, Option}
+use Rattle.std.specs.Prelude.{Bool, cond, not, ◌&&◌, Some, None, Option, slice_index_or}
 use Rattle.axis.specs.declared.direction.Direction.{Direction}
 use Rattle.axis.specs.declared.direction.Direction.TheVariants.{Clockwise, Counterclockwise}
+use Rattle.inputs.specs.Contacts.{inactive}
+use Rattle.inputs.specs.Switches.{place}
 use Rattle.inputs.specs.declared.switch.Switch.{Switch}
-use Rattle.inputs.specs.declared.switch.Switch.TheVariants.{ClockwiseLimit, CounterclockwiseLimit, Home, Clear, Hold, FirstInput, SecondInput, Stop}
+use Rattle.inputs.specs.declared.switch.Switch.TheVariants.{ClockwiseLimit, CounterclockwiseLimit, Clear, Hold, FirstInput, SecondInput, Stop}
 use Rattle.inputs.specs.declared.contact.Contact.{Contact}
 use Rattle.inputs.specs.declared.panel.Panel.{Panel}
 use Rattle.inputs.specs.declared.panel.Turned.{Turned}
@@ -11,14 +13,7 @@ use Rattle.inputs.specs.declared.panel.Input.{Input}
 use Rattle.inputs.specs.declared.panel.Input.TheVariants.{First, Second, Third, Fourth}
 
 abbrev pub contact : Panel → Switch → Contact
-contact p ClockwiseLimit = p.clockwise_limit
-contact p CounterclockwiseLimit = p.counterclockwise_limit
-contact p Home = p.home
-contact p Clear = p.clear
-contact p Hold = p.hold
-contact p FirstInput = p.first_input
-contact p SecondInput = p.second_input
-contact p Stop = p.stop
+contact p s = slice_index_or p.contacts (place s) inactive
 
 abbrev pub active : Panel → Switch → Bool
 active p s = (contact p s).accepted

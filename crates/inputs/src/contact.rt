@@ -29,6 +29,7 @@ impl Contact {
     }
 
     // A value is accepted once this sample and the two before it have it.
+    #[tactic(auto, using(crate::proofs::Flicker::flicker_law))]
     pub fn sampled(self, now: bool) -> Contact
         ensures sampled { result ≡ sampled self now }
         ensures flicker { FlickerLaw self }

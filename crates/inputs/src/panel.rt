@@ -5,14 +5,8 @@ pub mod sampling;
 
 #[derive(Clone, Copy)]
 pub struct Panel {
-    clockwise_limit: Contact,
-    counterclockwise_limit: Contact,
-    home: Contact,
-    clear: Contact,
-    hold: Contact,
-    first_input: Contact,
-    second_input: Contact,
-    stop: Contact,
+    // Each by its switch's bit.
+    contacts: [Contact; 8],
 }
 
 // What turned active at a sample.

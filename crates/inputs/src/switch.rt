@@ -1,42 +1,38 @@
 // The switches of a sample.
-ghost use Rattle.std.specs.Prelude.{◌≡◌, ◌<◌};
-ghost use Rattle.inputs.specs.Switches.{weight, bit};
+ghost use Rattle.std.specs.Prelude.{◌≡◌};
+ghost use Rattle.inputs.specs.Switches.{bit};
 
-// From bit 0.
+// Each by its bit.
 #[derive(Clone, Copy, PartialEq, Eq, Debug)]
 pub enum Switch {
     // This and the next are inputs 3 and 4 where the board is set so.
-    ClockwiseLimit,
-    CounterclockwiseLimit,
-    Home,
-    Clear,
-    Hold,
-    FirstInput,
-    SecondInput,
-    Stop,
+    ClockwiseLimit = 0,
+    CounterclockwiseLimit = 1,
+    Home = 2,
+    Clear = 3,
+    Hold = 4,
+    FirstInput = 5,
+    SecondInput = 6,
+    Stop = 7,
 }
 
 impl Switch {
-    fn weight(self) -> u8
-        ensures is { result ≡ weight self }
-        ensures some { 0 < result }
-    {
-        match self {
-            Switch::ClockwiseLimit => 1,
-            Switch::CounterclockwiseLimit => 2,
-            Switch::Home => 4,
-            Switch::Clear => 8,
-            Switch::Hold => 16,
-            Switch::FirstInput => 32,
-            Switch::SecondInput => 64,
-            Switch::Stop => 128,
-        }
-    }
+    // By their bits.
+    pub(crate) const ALL: [Switch; 8] = [
+        Switch::ClockwiseLimit,
+        Switch::CounterclockwiseLimit,
+        Switch::Home,
+        Switch::Clear,
+        Switch::Hold,
+        Switch::FirstInput,
+        Switch::SecondInput,
+        Switch::Stop,
+    ];
 
     // Whether it is active in this sample.
     pub fn is_in(self, sample: u8) -> bool
         ensures { result ≡ bit self sample }
     {
-        sample / self.weight() % 2 == 1
+        sample >> self as u8 & 1 == 1
     }
 }

@@ -1,1 +1,2 @@
+pub mod Allowances
 pub mod Fences

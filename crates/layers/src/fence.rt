@@ -3,6 +3,7 @@ ghost use Rattle.std.specs.Prelude.{◌≡◌, min, pos};
 ghost use Rattle.layers.specs.Fences.{low_end, high_end};
 ghost use Rattle.std.proofs.Common.{rules};
 
+use crate::allowance::Allowance;
 use crate::span::Span;
 use axis::direction::Direction;
 use axis::display::{Drive, Shown};
@@ -15,13 +16,16 @@ pub struct Fence<X> {
 }
 
 impl<X: Axis> Fence<X> {
-    // At most `down` pulses down and `up` pulses up from here, each capped at 1,000,000,000.
-    pub fn new(below: X, down: u32, up: u32) -> Fence<X>
-        ensures { (result.below ≡ below) × ((result.span.down ≡ min down 1000000000) × ((result.span.up ≡ min up 1000000000) × (result.span.net ≡ pos 0))) }
+    // So far from here, each way capped at 1,000,000,000.
+    pub fn new(below: X, allowance: Allowance) -> Fence<X>
+        ensures below { result.below ≡ below }
+        ensures down { result.span.allowance.down ≡ min allowance.down 1000000000 }
+        ensures up { result.span.allowance.up ≡ min allowance.up 1000000000 }
+        ensures net { result.span.net ≡ pos 0 }
     {
         Fence {
             below,
-            span: Span::new(down, up),
+            span: Span::new(allowance),
         }
     }
 }
@@ -41,9 +45,9 @@ impl<X: Axis> Axis for Fence<X> {
 
     ghost place = { λ s. X.Axis.place s.below };
 
-    ghost low = { λ s. low_end (X.Axis.low s.below) (X.Axis.place s.below) s.span.net s.span.down };
+    ghost low = { λ s. low_end (X.Axis.low s.below) (X.Axis.place s.below) s.span.net s.span.allowance.down };
 
-    ghost high = { λ s. high_end (X.Axis.high s.below) (X.Axis.place s.below) s.span.net s.span.up };
+    ghost high = { λ s. high_end (X.Axis.high s.below) (X.Axis.place s.below) s.span.net s.span.allowance.up };
 
     ghost powered = { λ s. X.Axis.powered s.below };
 

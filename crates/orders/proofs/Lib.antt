@@ -1,11 +1,9 @@
 pub mod Blanks
 pub mod ByKind
-pub mod Coded
 pub mod Cutting
 pub mod FirstByte
 pub mod FirstByteLaw
 pub mod Hands
-pub mod Home
 pub mod Naming
 pub mod Narrowing
 pub mod Outcomes

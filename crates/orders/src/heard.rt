@@ -1,4 +1,5 @@
 // What the words of a line have said so far.
+use codes::coded::Coded;
 use codes::host::HostCode;
 use codes::program::ProgramCode;
 use settings::parameter::Parameter;

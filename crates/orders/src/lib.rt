@@ -11,6 +11,5 @@ mod numbers;
 pub mod order;
 pub mod reading;
 pub mod start;
-pub mod tables;
 mod telling;
 mod wrong;

@@ -6,8 +6,10 @@ ghost use Rattle.orders.specs.Meanings.{hear, meaning, setting, nothing};
 use crate::fault::WordFault;
 use crate::heard::{Fields, Heard, Setting};
 use crate::numbers::{data, number};
-use crate::tables::{host_code, parameter, program_code};
 use crate::wrong::{is_foreign, is_missing, is_outside, is_unnamed};
+use codes::coded::Coded;
+use codes::host::HostCode;
+use codes::program::ProgramCode;
 use scan::field::Field;
 use settings::parameter::Parameter;
 use settings::values::Settings;
@@ -41,7 +43,7 @@ impl Heard {
     {
         match word {
             Word::N { digits, .. } => self.line = Some(digits.value(Field::Line)),
-            Word::G { digits, .. } => self.fields.code = program_code(digits.value(Field::Code)),
+            Word::G { digits, .. } => self.fields.code = ProgramCode::coded(digits.value(Field::Code)),
             Word::X { sign, digits, .. } => self.fields.x = Some(number(sign, digits)),
             Word::F { digits, .. } => self.fields.feed = Some(digits.value(Field::Feed)),
             Word::L {
@@ -51,9 +53,9 @@ impl Heard {
                 ..
             } => {
                 let number = data(code, sign, digits);
-                self.setting = setting(parameter(code.value(Field::Code)), number);
+                self.setting = setting(Parameter::coded(code.value(Field::Code)), number);
             }
-            Word::H { digits, .. } => self.host = host_code(digits.value(Field::Code)),
+            Word::H { digits, .. } => self.host = HostCode::coded(digits.value(Field::Code)),
         }
     }
 

@@ -5,7 +5,7 @@ ghost use Rattle.scan.specs.Numbers.{value};
 ghost use Rattle.scan.specs.declared.field.Field.TheVariants.{Code, Number};
 ghost use Rattle.orders.specs.Meanings.{signed};
 
-use crate::tables::parameter;
+use codes::coded::Coded;
 use scan::field::Field;
 use settings::parameter::Parameter;
 use words::digits::Digits;
@@ -15,10 +15,10 @@ use words::word::Sign;
 pub fn is_home(code: Digits<'_>) -> bool
     ensures { result ≡ (value (kept Code code.entry.bytes.now) == 8) }
 {
-    match parameter(code.value(Field::Code)) {
-        Some(parameter) => parameter == Parameter::HomeDirection,
-        None => false,
-    }
+    matches!(
+        Parameter::coded(code.value(Field::Code)),
+        Some(Parameter::HomeDirection)
+    )
 }
 
 fn with_sign(sign: Option<Sign>, size: u32) -> i32

@@ -1,5 +1,6 @@
 // What a line orders.
 use crate::heard::{Fields, Setting};
+use codes::coded::Coded;
 use codes::host::HostCode;
 use std::fmt;
 

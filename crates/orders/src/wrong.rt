@@ -5,8 +5,9 @@ ghost use Rattle.orders.specs.Meanings.{missing, foreign, any_field, unnamed, is
 
 use crate::heard::{Fields, Heard};
 use crate::numbers::{data, is_home};
-use crate::tables::{host_code, parameter, program_code};
+use codes::coded::Coded;
 use codes::host::HostCode;
+use codes::program::ProgramCode;
 use scan::field::Field;
 use settings::parameter::Parameter;
 use settings::values::Settings;
@@ -80,14 +81,14 @@ pub fn is_unnamed(bang: bool, word: Word<'_>) -> bool
 {
     if bang {
         return match word {
-            Word::H { digits, .. } => !asks(host_code(digits.value(Field::Code))),
+            Word::H { digits, .. } => !asks(HostCode::coded(digits.value(Field::Code))),
             _ => true,
         };
     }
     match word {
-        Word::G { digits, .. } => program_code(digits.value(Field::Code)).is_none(),
-        Word::H { digits, .. } => host_code(digits.value(Field::Code)).is_none(),
-        Word::L { code, .. } => parameter(code.value(Field::Code)).is_none(),
+        Word::G { digits, .. } => ProgramCode::coded(digits.value(Field::Code)).is_none(),
+        Word::H { digits, .. } => HostCode::coded(digits.value(Field::Code)).is_none(),
+        Word::L { code, .. } => Parameter::coded(code.value(Field::Code)).is_none(),
         _ => false,
     }
 }
@@ -99,8 +100,7 @@ fn takes(settings: &Settings, parameter: Option<Parameter>, number: i32) -> bool
     let Some(parameter) = parameter else {
         return false;
     };
-    let (least, most) = settings.range(parameter);
-    least <= number && number <= most
+    settings.takes(parameter, number)
 }
 
 // Whether there is no such program line, or the parameter does not take the number.
@@ -119,7 +119,7 @@ pub fn is_outside(settings: &Settings, word: Word<'_>) -> bool
             ..
         } => {
             let number = data(code, sign, digits);
-            !takes(settings, parameter(code.value(Field::Code)), number)
+            !takes(settings, Parameter::coded(code.value(Field::Code)), number)
         }
         _ => false,
     }

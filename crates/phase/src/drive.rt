@@ -1,9 +1,9 @@
 // An axis by four coils, in eight phases to a turn.
-ghost use Rattle.std.specs.Prelude.{◌≡◌, ◌<◌, false, ◌&&◌, pos, ◌≤ℤ◌, MatchOption, nat_lt};
+ghost use Rattle.std.specs.Prelude.{◌≡◌, ◌<◌, false, ◌&&◌, pos, ◌≤ℤ◌, IfNone, IfSome, nat_lt};
 ghost use Rattle.axis.specs.Pulses.{within};
 ghost use Rattle.phase.specs.Phases.{turned, low_end, high_end, coil_bits};
 ghost use Rattle.axis.specs.declared.display.Shown.TheVariants.{Coils};
-ghost use Rattle.std.proofs.Common.{rules, arith};
+ghost use Rattle.std.proofs.Common.{rules};
 
 use axis::direction::Direction;
 use axis::display::{Drive, Shown};
@@ -28,7 +28,9 @@ pub struct PhaseAxis {
 impl PhaseAxis {
     // Off, at place 0.
     pub fn new() -> PhaseAxis
-        ensures { (result.turns ≡ pos 0) × ((result.phase ≡ 0) × (result.on ≡ false)) }
+        ensures turns { result.turns ≡ pos 0 }
+        ensures phase { result.phase ≡ 0 }
+        ensures off { result.on ≡ false }
     {
         PhaseAxis {
             turns: 0,
@@ -39,15 +41,15 @@ impl PhaseAxis {
 
     // In this phase of this turn; none where there is no such phase, or it lies past the ends.
     pub fn at(turns: i32, phase: u8, on: bool) -> Option<PhaseAxis>
-        ensures { MatchOption result ((nat_lt phase 8 && within low_end high_end (turned turns phase)) ≡ false) (λ a. (a.turns ≡ turns) × (a.phase ≡ phase) × (a.on ≡ on)) }
+        ensures none { IfNone result ((nat_lt phase 8 && within low_end high_end (turned turns phase)) ≡ false) }
+        ensures turns { IfSome result (λ a. a.turns ≡ turns) }
+        ensures phase { IfSome result (λ a. a.phase ≡ phase) }
+        ensures on { IfSome result (λ a. a.on ≡ on) }
     {
         if phase > 7 {
             return None;
         }
-        if turns < FIRST_TURN {
-            return None;
-        }
-        if turns > LAST_TURN {
+        if !(FIRST_TURN..=LAST_TURN).contains(&turns) {
             return None;
         }
         Some(PhaseAxis { turns, phase, on })
@@ -59,7 +61,7 @@ impl Drive for PhaseAxis {
 
     fn shown(&self) -> Shown {
         let bits = if self.on {
-            COILS[self.phase as usize]
+            COILS[usize::from(self.phase)]
         } else {
             0
         };
@@ -80,11 +82,11 @@ impl Axis for PhaseAxis {
 
     ghost powered = { λ s. s.on };
 
-    ghost resolved = { first_of (Prim.search rules, Prim.grind (arith, Self.row.coded.inj)) };
+    ghost resolved = { Prim.search rules };
 
-    ghost least = { first_of (Prim.search rules, Prim.grind (arith, Self.row.coded.inj)) };
+    ghost least = { Prim.search rules };
 
-    ghost most = { first_of (Prim.search rules, Prim.grind (arith, Self.row.coded.inj)) };
+    ghost most = { Prim.search rules };
 
     fn resolution() -> u32 {
         Self::R

@@ -1,10 +1,10 @@
 // An axis by two pins: each pulse is counted on the pin of its direction.
-ghost use Rattle.std.specs.Prelude.{◌≡◌, false, ◌+ℤ◌, ◌≤ℤ◌, if◌then◌else◌, MatchOption};
+ghost use Rattle.std.specs.Prelude.{◌≡◌, false, ◌+ℤ◌, ◌≤ℤ◌, if◌then◌else◌, IfNone, IfSome};
 ghost use Rattle.axis.specs.Pulses.{takes, within};
 ghost use Rattle.axis.specs.Steps.{step};
 ghost use Rattle.pin.specs.Counts.{apart, low_end, high_end, Telling, clockwise_after, counterclockwise_after};
 ghost use Rattle.axis.specs.declared.display.Shown.TheVariants.{Counts};
-ghost use Rattle.std.proofs.Common.{rules, arith};
+ghost use Rattle.std.proofs.Common.{rules};
 
 use axis::direction::Direction;
 use axis::display::{Drive, Shown};
@@ -13,6 +13,13 @@ use axis::interface::Axis;
 const HIGH_END: i32 = 2_000_000_000;
 
 const LOW_END: i32 = -2_000_000_000;
+
+// The place that two counts tell.
+fn told(clockwise: u32, counterclockwise: u32) -> i32
+    ensures { result ≡ apart clockwise counterclockwise }
+{
+    clockwise.wrapping_sub(counterclockwise).cast_signed()
+}
 
 #[derive(Drop)]
 pub struct PinAxis {
@@ -26,7 +33,9 @@ pub struct PinAxis {
 impl PinAxis {
     // Off, at place 0.
     pub fn new() -> PinAxis
-        ensures { (result.clockwise ≡ 0) × ((result.counterclockwise ≡ 0) × (result.on ≡ false)) }
+        ensures clockwise { result.clockwise ≡ 0 }
+        ensures counterclockwise { result.counterclockwise ≡ 0 }
+        ensures off { result.on ≡ false }
     {
         PinAxis {
             clockwise: 0,
@@ -37,13 +46,13 @@ impl PinAxis {
 
     // With these counts; none where they give a place past the ends.
     pub fn counted(clockwise: u32, counterclockwise: u32, on: bool) -> Option<PinAxis>
-        ensures { MatchOption result (within low_end high_end (apart clockwise counterclockwise) ≡ false) (λ a. (a.clockwise ≡ clockwise) × (a.counterclockwise ≡ counterclockwise) × (a.on ≡ on)) }
+        ensures none { IfNone result (within low_end high_end (apart clockwise counterclockwise) ≡ false) }
+        ensures clockwise { IfSome result (λ a. a.clockwise ≡ clockwise) }
+        ensures counterclockwise { IfSome result (λ a. a.counterclockwise ≡ counterclockwise) }
+        ensures on { IfSome result (λ a. a.on ≡ on) }
     {
-        let place = clockwise.wrapping_sub(counterclockwise).cast_signed();
-        if place < LOW_END {
-            return None;
-        }
-        if place > HIGH_END {
+        let place = told(clockwise, counterclockwise);
+        if !(LOW_END..=HIGH_END).contains(&place) {
             return None;
         }
         Some(PinAxis {
@@ -82,11 +91,11 @@ impl Axis for PinAxis {
 
     ghost powered = { λ s. s.on };
 
-    ghost resolved = { first_of (Prim.search rules, Prim.grind (arith, Self.row.coded.inj)) };
+    ghost resolved = { Prim.search rules };
 
-    ghost least = { first_of (Prim.search rules, Prim.grind (arith, Self.row.coded.inj)) };
+    ghost least = { Prim.search rules };
 
-    ghost most = { first_of (Prim.search rules, Prim.grind (arith, Self.row.coded.inj)) };
+    ghost most = { Prim.search rules };
 
     fn resolution() -> u32 {
         Self::R
@@ -112,10 +121,7 @@ impl Axis for PinAxis {
         if !self.on {
             return false;
         }
-        let place = self
-            .clockwise
-            .wrapping_sub(self.counterclockwise)
-            .cast_signed();
+        let place = told(self.clockwise, self.counterclockwise);
         match way {
             Direction::Clockwise => {
                 if place >= HIGH_END {

@@ -1,7 +1,6 @@
 -- Where legs may end.
-use Rattle.std.specs.Prelude.{ℕ, Bool, false, cond, ◌&&◌, ◌||◌, List, [], ◌∷◌, ℤ, pos, negsuc, ◌+ℤ◌, Some, None, Ok, Err, Option, Result, int_lt}
+use Rattle.std.specs.Prelude.{ℕ, Bool, false, cond, ◌&&◌, ◌||◌, List, [], ◌∷◌, ℤ, pos, negsuc, ◌+ℤ◌, Ok, Err, Result, int_lt}
 use Rattle.plan.specs.Legs.{forward, backward}
-use Rattle.plan.specs.declared.leg.Leg.{Leg}
 use Rattle.plan.specs.declared.fault.MoveFault.{MoveFault}
 use Rattle.plan.specs.declared.fault.MoveFault.TheVariants.{WindingsOff, NoLowSpeed, PastLimit, PastEnd}
 
@@ -31,12 +30,3 @@ any_leg test c (l ∷ ls) = test l (c +ℤ l) || any_leg test (c +ℤ l) ls
 -- over all legs the limits come before the counter's end
 abbrev pub allowed : ℤ → ℤ → ℤ → List ℤ → Result (Unit {0}) MoveFault
 allowed cw ccw c ls = cond (any_leg (past_limit cw ccw) c ls) (Err PastLimit) (cond (any_leg past_end c ls) (Err PastEnd) (Ok tt))
-
--- where a leg ends, or where one stands that has none
-abbrev pub ended : ℤ → Option Leg → ℤ
-ended c None = c
-ended c (Some l) = c +ℤ l.pulses
-
-abbrev pub at_leg : (ℤ → ℤ → Bool) → ℤ → Option Leg → Bool
-at_leg test c None = false
-at_leg test c (Some l) = test l.pulses (c +ℤ l.pulses)

@@ -2,26 +2,21 @@
 ghost use Rattle.std.specs.Prelude.{◌≡◌};
 ghost use Rattle.plan.specs.Limits.{number_of};
 
+// Each by its number on the refusal card.
 #[derive(Clone, Copy, PartialEq, Eq, Debug)]
 pub enum MoveFault {
-    WindingsOff,
+    WindingsOff = 10,
     // The low speed is 0, and the move needs one.
-    NoLowSpeed,
-    PastLimit,
+    NoLowSpeed = 11,
+    PastLimit = 12,
     // Of the counter.
-    PastEnd,
+    PastEnd = 13,
 }
 
 impl MoveFault {
-    // Its number on the refusal card.
     pub fn number(self) -> u8
         ensures { result ≡ number_of self }
     {
-        match self {
-            MoveFault::WindingsOff => 10,
-            MoveFault::NoLowSpeed => 11,
-            MoveFault::PastLimit => 12,
-            MoveFault::PastEnd => 13,
-        }
+        self as u8
     }
 }

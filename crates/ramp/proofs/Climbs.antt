@@ -1,6 +1,9 @@
 -- How far a ramp climbs. V is the move's speed, L the low speed, d twice the acceleration, z the lift.
-use Rattle.std.proofs.Common.{◌≡◌, ℕ, ◌+◌, ◌-◌, ◌*◌, ◌/◌, ◌^◌, ◌<◌, ◌≤◌, min, Bool, true, false, cond, eqb, ltb, ◌⊎◌, refl, ap, inl, inr, le_trans, mul_comm, div-lt_iff_lt-mul, add-mul, mul-le-mul, le-div_iff_mul-le, arith, ltb-true, lt-ltb}
+use Rattle.std.proofs.Common.{◌≡◌, ℕ, ◌+◌, ◌-◌, ◌*◌, ◌/◌, ◌<◌, ◌≤◌, min, Bool, true, false, cond, eqb, ltb, ◌⊎◌, refl, ap, inl, inr, le_trans, mul_comm, div-lt_iff_lt-mul, le_antisymm, add-mul, mul-le-mul, le-div_iff_mul-le, arith, ltb-true, lt-ltb}
+use Rattle.std.specs.Int.{div_ceil}
+use Rattle.std.proofs.lemmas.Grind.{div_ceil_times}
 use Rattle.std.proofs.lemmas.Bool.Decides.{nat_tests, eqb_tells}
+use Rattle.std.proofs.Math.Nat.{min-eq_left}
 use Rattle.ramp.specs.Rates.{lift, reached, rate_at, ceiling_level, LeastAtTop}
 use Rattle.ramp.specs.Roots.{root}
 use Rattle.ramp.specs.declared.mode.SpeedMode.{SpeedMode}
@@ -16,6 +19,11 @@ steps_least m d k some h =
     let past : m + (d - 1) < (k + 1) * d = omega (arith, add-mul k 1 d, mul_comm k d) in
     let less : (m + (d - 1)) / d < k + 1 = (div-lt_iff_lt-mul some).1 past in
     omega arith
+
+pub rounded_up : (m d : ℕ) → 1 ≤ d → div_ceil m d ≡ (m + (d - 1)) / d
+rounded_up m d some =
+    let b = div_ceil_times m d some in
+    le_antisymm ((le-div_iff_mul-le some).1 (omega (arith, b.1))) (steps_least m d (div_ceil m d) some (omega (arith, b.0, mul_comm d (div_ceil m d))))
 
 pub steps_some : (m d : ℕ) → 1 ≤ d → 1 ≤ m → 1 ≤ (m + (d - 1)) / d
 steps_some m d some h = let enough : 1 * d ≤ m + (d - 1) = omega arith in (le-div_iff_mul-le some).1 enough
@@ -43,12 +51,6 @@ module _ (L V d z : ℕ) (h : L < V) (some : 1 ≤ d) (lifted : z ≤ (V * V - L
       let most : (V * V - L * L + (d - 1)) / d ≤ s + z = steps_least (V * V - L * L) d (s + z) some (omega arith) in
       omega arith
 
-all_of : (V r : ℕ) → V ≤ r → min V r ≡ V
-all_of V r h = omega arith
-
-of_all : (V r : ℕ) → min V r ≡ V → V ≤ r
-of_all V r h = omega arith
-
 abbrev steps : ℕ → ℕ → ℕ → ℕ
 steps L A V = (V * V - L * L + (2 * A - 1)) / (2 * A) - lift L
 
@@ -57,7 +59,7 @@ climbing : (b : Bool) (L A V : ℕ) → 1 ≤ A → (b ≡ true → L < V)
 climbing true L A V some h =
     let below = h refl in
     let fits = lift_fits L V (2 * A) below (omega arith) in
-    (all_of V _ (reaches L V (2 * A) (lift L) below (omega arith) fits), λ s e. not_before L V (2 * A) (lift L) below (omega arith) fits s (of_all V _ e))
+    (min-eq_left (reaches L V (2 * A) (lift L) below (omega arith) fits), λ s e. not_before L V (2 * A) (lift L) below (omega arith) fits s (omega (arith, e)))
 climbing false L A V some h = (refl, λ s e. omega arith)
 
 -- the ceiling is the least level of the highest rate
@@ -79,25 +81,6 @@ reached_some L A s some = by (eqb_tells L 0)
 pub root_some : (n : ℕ) → 1 ≤ n → 1 ≤ root n
 root_some n h = below_root 1 (root n) n (omega arith) (root_high n)
 
--- no square of a ramp in range passes 64 bits
-reached_fits : (L A s z : ℕ) → L ≤ 1875000 → A ≤ 99999999 → s < 2 ^ 32 → z ≤ 1 → L * L + 2 * A * (s + z) < 2 ^ 64
-reached_fits L A s z l a h k =
-    let m : 2 * A * (s + z) ≤ 199999998 * 4294967296 = mul-le-mul {n₁ = 2 * A} {m₁ = s + z} {n₂ = 199999998} {m₂ = 4294967296} (omega arith) (omega arith) in
-    omega (arith, square_mono L 1875000 l)
-
-lift_most : (L : ℕ) → lift L ≤ 1
-lift_most L = grind (arith, nat_tests)
-
--- w is the root that the code finds, with z for the lift
-module _ (L A V s z w : ℕ) (lifted : z ≡ lift L) (low : w * w ≤ L * L + 2 * A * (s + z)) (high : L * L + 2 * A * (s + z) < (w + 1) * (w + 1)) where
-  found : w ≡ root (reached L A s)
-  found = root_is (reached L A s) w (rw lifted at low) (rw lifted at high)
-
-  pub high_rate : L < V → min V w ≡ rate_at High L A V s
-  high_rate h = rw (lt-ltb L V h) (ap (min V) found)
-
-  pub high_some : 1 ≤ A → 1 ≤ w
-  high_some some = rw found (root_some (reached L A s) (reached_some L A s some))
-
-pub high_fits : (L A s z : ℕ) → L ≤ 1875000 → A ≤ 99999999 → s < 2 ^ 32 → z ≡ lift L → L * L + 2 * A * (s + z) < 2 ^ 64
-high_fits L A s z l a h k = reached_fits L A s z l a h (omega (arith, lift_most L))
+-- w is the root that the code finds of q, the square at the level s
+pub high_rate : (L A V s q w : ℕ) → q ≡ reached L A s → w * w ≤ q → q < (w + 1) * (w + 1) → L < V → min V w ≡ rate_at High L A V s
+high_rate L A V s q w square low high h = rw (lt-ltb L V h) (ap (min V) (root_is (reached L A s) w (rw square at low) (rw square at high)))

@@ -37,7 +37,3 @@ from_rest_to_rest C (suc n) =
 pub fading_count : (k : ℕ) → length (fading k) ≡ k
 fading_count zero = refl
 fading_count (suc k) = ap suc (fading_count k)
-
-pub fading_more : (p : ℕ) → 0 < p → fading p ≡ (p - 1) ∷ fading (p - 1)
-fading_more zero h = let z : ⊥ = omega arith in elim z [ ]
-fading_more (suc k) h = let e : suc k - 1 ≡ k = omega arith in ap (λ x. x ∷ fading x) (sym e)

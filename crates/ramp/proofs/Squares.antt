@@ -1,5 +1,5 @@
 -- Squares and roots.
-use Rattle.std.proofs.Common.{◌≡◌, ℕ, zero, suc, ◌+◌, ◌*◌, ◌/◌, ◌^◌, ◌<◌, ◌≤◌, inl, inr, mul_assoc, mul_comm, add-mul, mul-le-mul, le_antisymm, mul-add, arith}
+use Rattle.std.proofs.Common.{◌≡◌, ℕ, zero, suc, ◌+◌, ◌*◌, ◌<◌, ◌≤◌, inl, inr, add-mul, mul-le-mul, le_antisymm, mul-add, arith}
 use Rattle.std.proofs.lemmas.Bool.Decides.{nat_tests, leb_tells}
 use Rattle.ramp.specs.Roots.{root, onward}
 
@@ -37,13 +37,3 @@ root_high (suc n) = onward_high (root n) n (root_high n)
 -- what a number's root is, by its square and the next
 pub root_is : (n r : ℕ) → r * r ≤ n → n < (r + 1) * (r + 1) → r ≡ root n
 root_is n r h k = one_root r (root n) n h k (root_low n) (root_high n)
-
--- the root of a quarter of a 64-bit number
-pub small_half : (h n : ℕ) → h * h ≤ n / 4 → n < 2 ^ 64 → h < 2 ^ 31
-small_half h n low fits = let k : h ≤ 2147483647 = below_root h 2147483647 (n / 4) low (omega arith) in omega arith
-
-pub odd_square : (h : ℕ) → h < 2 ^ 31 → (2 * h + 1) * (2 * h + 1) < 2 ^ 64
-odd_square h k = let m : (2 * h + 1) * (2 * h + 1) ≤ 4294967295 * 4294967295 = square_mono (2 * h + 1) 4294967295 (omega arith) in omega arith
-
-pub even_square : (h n : ℕ) → h * h ≤ n / 4 → 2 * h * (2 * h) ≤ n
-even_square h n low = omega (arith, mul_assoc 2 h (2 * h), mul_comm h (2 * h), mul_assoc 2 h h)

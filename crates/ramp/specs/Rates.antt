@@ -42,5 +42,8 @@ drives Low L = nat_le 1 L
 drives High L = true
 
 -- the ranges: L to 1,875,000, A from 1 to 99,999,999, V from 1 to 1,875,000
+abbrev pub climbs : ℕ → ℕ → ℕ → Bool
+climbs L A V = nat_le L 1875000 && ((nat_le 1 A && nat_le A 99999999) && (nat_le 1 V && nat_le V 1875000))
+
 abbrev pub in_range : SpeedMode → ℕ → ℕ → ℕ → Bool
-in_range m L A V = nat_le L 1875000 && ((nat_le 1 A && nat_le A 99999999) && ((nat_le 1 V && nat_le V 1875000) && drives m L))
+in_range m L A V = climbs L A V && drives m L

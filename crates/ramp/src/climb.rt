@@ -1,56 +1,75 @@
-// The arithmetic of the ramp, on numbers in range.
-ghost use Rattle.std.specs.Prelude.{◌≡◌, ◌^◌, ◌<◌, ◌≤◌};
-ghost use Rattle.ramp.specs.Rates.{rate_at, ceiling_level, drives, lift, reached};
+// A climb: from the low speed, at the acceleration, up to the move's speed. Its arithmetic.
+ghost use Rattle.std.specs.Prelude.{◌≡◌, ◌≤◌, false, MatchOption};
+ghost use Rattle.ramp.specs.Rates.{climbs, rate_at, ceiling_level, lift};
 ghost use Rattle.ramp.specs.declared.mode.SpeedMode.TheVariants.{High};
 
-use crate::mode::SpeedMode;
+use crate::rate::Rate;
 use crate::root::whole_root;
 
-pub fn drives(mode: SpeedMode, low: u32) -> bool
-    ensures { result ≡ drives mode low }
-{
-    match mode {
-        SpeedMode::Low => low >= 1,
-        SpeedMode::High => true,
+#[derive(Clone, Copy)]
+pub(crate) struct Climb {
+    pub(crate) low: u32,
+    pub(crate) acceleration: u32,
+    pub(crate) speed: u32,
+    ghost low_most: { low ≤ 1875000 },
+    ghost acceleration_some: { 1 ≤ acceleration },
+    ghost acceleration_most: { acceleration ≤ 99999999 },
+    ghost speed_some: { 1 ≤ speed },
+    ghost speed_most: { speed ≤ 1875000 },
+}
+
+impl Climb {
+    ghost use Rattle.ramp.specs.Courses.{HasNumbers};
+
+    // None where a number is out of its range.
+    pub(crate) fn new(low: u32, acceleration: u32, speed: u32) -> Option<Climb>
+        ensures { MatchOption result (climbs low acceleration speed ≡ false) (HasNumbers low acceleration speed) }
+    {
+        if low > 1_875_000
+            || !(1..=99_999_999).contains(&acceleration)
+            || !(1..=1_875_000).contains(&speed)
+        {
+            return None;
+        }
+        Some(Climb {
+            low,
+            acceleration,
+            speed,
+        })
     }
-}
 
-fn lift(low: u32) -> u64
-    ensures { result ≡ lift low }
-{
-    if low == 0 { 1 } else { 0 }
-}
+    fn lift(self) -> u64
+        ensures { result ≡ lift self.low }
+    {
+        u64::from(self.low == 0)
+    }
 
-// The level that a move climbs to.
-pub fn ceiling(mode: SpeedMode, low: u32, acceleration: u32, speed: u32) -> u64
-    requires { (1 ≤ acceleration) × ((acceleration ≤ 99999999) × (speed ≤ 1875000)) }
-    ensures { result ≡ ceiling_level mode low acceleration speed }
-{
-    match mode {
-        SpeedMode::Low => 0,
-        SpeedMode::High => {
-            if low >= speed {
-                return 0;
-            }
-            let l = low as u64;
-            let v = speed as u64;
-            let a2 = 2 * acceleration as u64;
-            (v * v - l * l + (a2 - 1)) / a2 - lift(low)
+    // The level at which the speed is reached.
+    #[tactic(auto, using(crate::proofs::Climbs::rounded_up))]
+    pub(crate) fn ceiling(self) -> u64
+        ensures { result ≡ ceiling_level High self.low self.acceleration self.speed }
+    {
+        if self.low >= self.speed {
+            return 0;
+        }
+        let low = u64::from(self.low);
+        let speed = u64::from(self.speed);
+        (speed * speed - low * low).div_ceil(2 * u64::from(self.acceleration)) - self.lift()
+    }
+
+    // The rate at a level.
+    pub(crate) fn rate(self, level: u32) -> Rate
+        ensures { result.per_second ≡ rate_at High self.low self.acceleration self.speed level }
+    {
+        if self.low >= self.speed {
+            return Rate {
+                per_second: self.speed,
+            };
+        }
+        let low = u64::from(self.low);
+        let rise = 2 * u64::from(self.acceleration) * (u64::from(level) + self.lift());
+        Rate {
+            per_second: self.speed.min(whole_root(low * low + rise)),
         }
     }
-}
-
-// The rate at a level of high speed.
-pub fn rate(low: u32, acceleration: u32, speed: u32, level: u32) -> u32
-    requires { (low ≤ 1875000) × ((1 ≤ acceleration) × ((acceleration ≤ 99999999) × ((1 ≤ speed) × (speed ≤ 1875000)))) }
-    ensures is { result ≡ rate_at High low acceleration speed level }
-    ensures some { 1 ≤ result }
-    ensures most { result ≤ 1875000 }
-{
-    if low >= speed {
-        return speed;
-    }
-    let l = low as u64;
-    let square = l * l + 2 * acceleration as u64 * (level as u64 + lift(low));
-    speed.min(whole_root(square))
 }

@@ -4,3 +4,18 @@ pub enum SpeedMode {
     Low,
     High,
 }
+
+impl SpeedMode {
+    ghost use Rattle.std.specs.Prelude.{◌≡◌};
+    ghost use Rattle.ramp.specs.Rates.{drives};
+
+    // Whether this low speed drives a move.
+    pub(crate) fn drives(self, low: u32) -> bool
+        ensures { result ≡ drives self low }
+    {
+        match self {
+            SpeedMode::Low => low >= 1,
+            SpeedMode::High => true,
+        }
+    }
+}

@@ -12,12 +12,7 @@ impl Motor {
     {
         match self {
             Motor::AtRest => None,
-            Motor::Running { level } => {
-                if level == 0 {
-                    return None;
-                }
-                Some(level - 1)
-            }
+            Motor::Running { level } => level.checked_sub(1),
         }
     }
 }

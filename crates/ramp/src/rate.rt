@@ -7,19 +7,12 @@ const CLOCK: u32 = 15_000_000;
 
 #[derive(Clone, Copy)]
 pub struct Rate {
-    per_second: u32,
+    pub(crate) per_second: u32,
     ghost some: { 1 ≤ per_second },
     ghost most: { per_second ≤ 1875000 },
 }
 
 impl Rate {
-    pub(crate) fn of(per_second: u32) -> Rate
-        requires { (1 ≤ per_second) × (per_second ≤ 1875000) }
-        ensures { result.per_second ≡ per_second }
-    {
-        Rate { per_second }
-    }
-
     pub fn per_second(self) -> u32
         ensures { result ≡ self.per_second }
     {

@@ -141,11 +141,9 @@ const RATES: [Case; 16] = [
 
 #[test]
 fn rates(rt: HostRuntime) -> Result<(), Fail> {
-    for case in RATES.iter() {
+    for case in &RATES {
         let (mode, low, acceleration, speed) = case.ramp;
-        let Some(ramp) = Ramp::new(mode, low, acceleration, speed) else {
-            return Err(Fail::new("out of range"));
-        };
+        let ramp = Ramp::new(mode, low, acceleration, speed).ok_or("out of range")?;
         let rate = ramp.rate(case.level);
         assert_eq!(rt; rate.per_second(), case.rate);
         assert_eq!(rt; rate.wait(), case.wait);
@@ -168,14 +166,10 @@ const CEILINGS: [(u32, u32, u32, u64); 9] = [
 #[test]
 fn ceilings(rt: HostRuntime) -> Result<(), Fail> {
     for (low, acceleration, speed, ceiling) in CEILINGS {
-        let Some(ramp) = Ramp::new(HIGH, low, acceleration, speed) else {
-            return Err(Fail::new("out of range"));
-        };
+        let ramp = Ramp::new(HIGH, low, acceleration, speed).ok_or("out of range")?;
         assert_eq!(rt; ramp.ceiling(), ceiling);
     }
-    let Some(ramp) = worked() else {
-        return Err(Fail::new("out of range"));
-    };
+    let ramp = worked().ok_or("out of range")?;
     assert_eq!(rt; ramp.ceiling(), 455);
     Ok(())
 }
@@ -209,20 +203,10 @@ fn takes(
     speed: u32,
     levels: &[u32],
 ) -> Result<(), Fail> {
-    let Some(ramp) = Ramp::new(mode, 300, acceleration, speed) else {
-        return Err(Fail::new("out of range"));
-    };
-    let Ok(count) = u32::try_from(levels.len()) else {
-        return Err(Fail::new("too many"));
-    };
-    let mut course = Course::new(ramp, count);
-    for level in levels {
-        let Some(pulse) = course.next() else {
-            return Err(Fail::new("over too soon"));
-        };
-        assert_eq!(rt; pulse.level, *level);
-    }
-    assert!(rt; course.next().is_none());
+    let ramp = Ramp::new(mode, 300, acceleration, speed).ok_or("out of range")?;
+    let count = u32::try_from(levels.len())?;
+    let course = Course::new(ramp, count);
+    assert!(rt; course.map(|pulse| pulse.level).eq(levels.iter().copied()));
     Ok(())
 }
 

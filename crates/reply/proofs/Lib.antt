@@ -1,5 +1,4 @@
 pub mod Again
-pub mod Explicit
 pub mod Padding
 pub mod RoundTrip
 pub mod Says

@@ -1,12 +1,13 @@
 -- Digits with zeros in front: digits all, and worth the number.
 use Rattle.std.proofs.Common.{◌≡◌, ℕ, zero, suc, ◌+◌, ◌-◌, ◌*◌, ◌/◌, ◌%◌, ◌^◌, ◌<◌, true, ◌&&◌, List, [], ◌∷◌, ◌++◌, sym, refl, ap, ◌∙◌, mod-eq_of_lt, mul_assoc, mul_comm, add-mul, pow-suc, arith}
 use lib.Arith.{mod-mul}
+use Rattle.std.proofs.Math.Nat.{div-one, div-div-eq-div-mul}
 use Rattle.std.proofs.lemmas.Bool.Decides.{nat_tests}
 use Rattle.scan.specs.Numbers.{digit, digits, read_on, value}
 use Rattle.scan.specs.Runs.{span, past}
 use Rattle.scan.proofs.Few.{first, second}
 use Rattle.orders.proofs.Widening.{past_on, span_on}
-use Rattle.reply.specs.Texts.{padded}
+use Rattle.reply.specs.Texts.{padded, digit_of}
 
 a_digit : (x : ℕ) → digit (48 + x % 10) ≡ true
 a_digit x = let h : x % 10 < 10 = omega arith in grind (arith, nat_tests)
@@ -51,3 +52,10 @@ span_end (d ∷ ds) h = span_on digit d ds (first (digit d) (digits ds) h) ∙ a
 pub past_end : (ds : List ℕ) → digits ds ≡ true → past digit ds ≡ []
 past_end [] h = refl
 past_end (d ∷ ds) h = past_on digit d ds (first (digit d) (digits ds) h) ∙ past_end ds (second (digit d) (digits ds) h)
+
+-- the last digit behind those of a tenth
+pub padded_last : (k m : ℕ) → padded k (m / 10) ++ (48 + m % 10) ∷ [] ≡ padded (suc k) m
+padded_last zero m = ap (λ q. (48 + q % 10) ∷ []) (sym (div-one m))
+padded_last (suc k) m =
+    let first_digit : digit_of (m / 10) (10 ^ k) ≡ digit_of m (10 ^ suc k) = ap (λ q. 48 + q % 10) (div-div-eq-div-mul m 10 (10 ^ k) ∙ ap (λ q. m / q) (mul_comm 10 (10 ^ k) ∙ sym (pow-suc 10 k))) in
+    ap (λ d. d ∷ (padded k (m / 10) ++ (48 + m % 10) ∷ [])) first_digit ∙ ap (λ ds. digit_of m (10 ^ suc k) ∷ ds) (padded_last k m)

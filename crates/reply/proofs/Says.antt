@@ -1,7 +1,7 @@
 -- What the words of a program line's text say.
 use Rattle.std.proofs.Common.{◌≡◌, ℕ, suc, ◌-◌, ◌^◌, ◌<◌, ◌≤◌, true, false, eqb, leb, List, ◌∷◌, ◌++◌, length, ℤ, pos, negsuc, neg_ℤ, nat_abs, Some, None, Ok, Option, Result, refl, ap, ◌∙◌, arith}
 use Rattle.std.proofs.lemmas.Bool.Decides.{nat_tests}
-use Rattle.codes.specs.Program.{code}
+use Rattle.codes.specs.Program.{code, found}
 use Rattle.codes.specs.declared.program.ProgramCode.{ProgramCode}
 use Rattle.codes.specs.declared.program.ProgramCode.TheVariants as G
 use Rattle.scan.specs.Fields.{kept}
@@ -12,7 +12,6 @@ use Rattle.orders.specs.Meanings.{signed, nothing, meaning}
 use Rattle.orders.specs.Lines.{and_then, heard_on}
 use Rattle.orders.specs.declared.heard.Heard.{Heard}
 use Rattle.orders.specs.declared.fault.WordFault.{WordFault}
-use Rattle.orders.proofs.Coded.{at_program}
 use Rattle.reply.specs.Texts.{padded, sign_of}
 use Rattle.orders.specs.Widths.{XFits, FeedFits}
 use Rattle.reply.proofs.Padding.{padded_value}
@@ -33,7 +32,7 @@ module _ (R n p : ℕ) (ds : List ℕ) (some : eqb (length ds) 0 ≡ false) wher
   n_says v least most = rw (some, v, at_least n least, at_most n most)
 
   g_says : (c : ProgramCode) → value (kept Code ds) ≡ code c → meaning R true false (so_far n None None None) (word 71 p None ds) ≡ Ok (so_far n (Some c) None None)
-  g_says c v = rw (some, v, at_program c)
+  g_says c v = rw (some, v, found c)
 
   x_says : (g : Option ProgramCode) (x : ℤ) (s : Option Sign) → signed s (value (kept Number ds)) ≡ x → meaning R true false (so_far n g None None) (word 88 p s ds) ≡ Ok (so_far n g (Some x) None)
   x_says g x s v = rw (some, v)

@@ -1,15 +1,14 @@
 -- What is owed for a line.
-use Rattle.std.specs.Prelude.{ℕ, List, [], Some, None, Option}
+use Rattle.std.specs.Prelude.{ℕ, List, [], Some, None, Ok, Err, Option, Result}
+use Rattle.program.specs.declared.fault.OrderFault.{OrderFault}
 use Rattle.reply.specs.Texts.{text}
-use Rattle.reply.specs.declared.slip.Outcome.{Outcome}
-use Rattle.reply.specs.declared.slip.Outcome.TheVariants.{Accepted, Refused}
-use Rattle.reply.specs.declared.slip.Refusal.{Refusal}
+use Rattle.reply.specs.declared.answer.Answer.{Answer}
 
 -- the bytes of the answer; none for a refused line
-abbrev pub owed : Outcome → List ℕ
-owed (Accepted a) = text a
-owed (Refused r) = []
+abbrev pub owed : Result Answer OrderFault → List ℕ
+owed (Ok a) = text a
+owed (Err f) = []
 
-abbrev pub refused : Outcome → Option Refusal
-refused (Accepted a) = None
-refused (Refused r) = Some r
+abbrev pub refused : Result Answer OrderFault → Option OrderFault
+refused (Ok a) = None
+refused (Err f) = Some f

@@ -1,13 +1,15 @@
 // Bytes of numbers.
-ghost use Rattle.std.specs.Prelude.{◌≡◌, ◌<◌};
-ghost use Rattle.reply.specs.Texts.{digit_of, sign_of, bit};
+ghost use Rattle.std.specs.Prelude.{◌≡◌, length};
+ghost use Rattle.reply.specs.Texts.{padded, sign_of, bit};
 
-// The digit that counts `unit`.
-pub fn digit(number: u32, unit: u32) -> u8
-    requires { 0 < unit }
-    ensures { result ≡ digit_of number unit }
+// Fills `text` with the last digits of a number, zeros in front.
+pub fn put_digits(text: &mut [u8], number: u32)
+    ensures { text.new ≡ padded (length text.old) number }
 {
-    48 + (number / unit % 10) as u8
+    if let Some((last, front)) = text.split_last_mut() {
+        *last = b'0' + (number % 10) as u8;
+        put_digits(front, number / 10);
+    }
 }
 
 // 0 has +.
@@ -20,5 +22,5 @@ pub fn sign(number: i32) -> u8
 pub fn bit(on: bool) -> u8
     ensures { result ≡ bit on }
 {
-    if on { b'1' } else { b'0' }
+    b'0' + u8::from(on)
 }

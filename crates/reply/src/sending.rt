@@ -1,25 +1,15 @@
 // The answers that come out of the memory and the parameters.
-ghost use Rattle.std.specs.Prelude.{◌≡◌, slice_index_or};
-ghost use Rattle.program.specs.Memories.{unprogrammed};
+ghost use Rattle.std.specs.Prelude.{◌≡◌};
 ghost use Rattle.reply.specs.Sendings.{line_sent, parameter_sent};
 ghost use Rattle.reply.specs.declared.answer.Answer.TheVariants.{Pointer};
 
 use crate::answer::Answer;
+use codes::coded::Coded;
 use orders::heard::Fields;
-use orders::tables::parameter;
 use program::clearing::UNPROGRAMMED;
 use program::number::LineNumber;
 use settings::parameter::Parameter;
 use settings::values::Settings;
-
-fn line_at(lines: &[Fields], i: usize) -> Fields
-    ensures { result ≡ slice_index_or lines.now i unprogrammed }
-{
-    if i < lines.len() {
-        return lines[i];
-    }
-    UNPROGRAMMED
-}
 
 // H13: where there is no such line in the memory, none is programmed.
 pub fn send_line(lines: &[Fields], line: LineNumber) -> Answer
@@ -27,7 +17,7 @@ pub fn send_line(lines: &[Fields], line: LineNumber) -> Answer
 {
     Answer::ProgramLine {
         number: line.number(),
-        fields: line_at(lines, line.index()),
+        fields: lines.get(line.index()).copied().unwrap_or(UNPROGRAMMED),
     }
 }
 
@@ -45,7 +35,7 @@ pub fn send_parameter(settings: &Settings) -> Answer
     ensures { result ≡ parameter_sent settings.now }
 {
     let code = settings.get(Parameter::TransferCode);
-    match parameter(code.unsigned_abs()) {
+    match Parameter::coded(code.unsigned_abs()) {
         Some(parameter) => Answer::Parameter {
             parameter,
             value: settings.get(parameter),

@@ -2,27 +2,14 @@
 ghost use Rattle.std.specs.Prelude.{◌≡◌, true};
 
 use crate::answer::Answer;
-use orders::fault::Layer;
+use program::fault::OrderFault;
 
 pub mod settling;
 
-// Why a line was refused: the number on the card, the place of the byte or word or 0, and the layer.
-#[derive(Clone, Copy)]
-pub struct Refusal {
-    pub cause: u8,
-    pub place: usize,
-    pub layer: Layer,
-}
-
-#[derive(Clone, Copy)]
-pub enum Outcome {
-    Accepted(Answer),
-    Refused(Refusal),
-}
-
-// It may be let go only once it is settled.
+// It may be let go only once it is settled: a flag that the check reads, since a slip that is not may neither be dropped nor settled twice.
 pub struct Slip {
-    outcome: Outcome,
+    // Of a refused line, why.
+    outcome: Result<Answer, OrderFault>,
     settled: bool,
 }
 

@@ -1,117 +1,61 @@
 // The other answers as text, each with carriage return and line feed.
-ghost use Rattle.std.specs.Prelude.{◌≡◌, true, false};
-ghost use Rattle.reply.specs.Texts.{text, home_text, coded_text, flags_text};
+ghost use Rattle.std.specs.Prelude.{◌≡◌, true, false, ◌++◌};
+ghost use Rattle.reply.specs.Texts.{text, home_text, coded_text, end};
 ghost use Rattle.reply.specs.declared.answer.Answer.TheVariants.{Pointer, Position};
 
-use crate::digits::{bit, digit, sign};
+use crate::digits::{put_digits, sign};
 
 pub fn pointer(number: u32) -> [u8; 6]
     ensures { result ≡ text (Pointer number) }
 {
-    [
-        b'N',
-        digit(number, 100),
-        digit(number, 10),
-        digit(number, 1),
-        b'\r',
-        b'\n',
-    ]
+    let mut text = *b"N000\r\n";
+    put_digits(&mut text[1..4], number);
+    text
 }
 
 pub fn position(count: i32) -> [u8; 12]
     ensures { result ≡ text (Position count) }
 {
-    let size = count.unsigned_abs();
-    [
-        sign(count),
-        digit(size, 100_000_000),
-        digit(size, 10_000_000),
-        digit(size, 1_000_000),
-        digit(size, 100_000),
-        digit(size, 10_000),
-        digit(size, 1_000),
-        digit(size, 100),
-        digit(size, 10),
-        digit(size, 1),
-        b'\r',
-        b'\n',
-    ]
+    let mut text = *b"+000000000\r\n";
+    text[0] = sign(count);
+    put_digits(&mut text[1..10], count.unsigned_abs());
+    text
 }
 
 // L08 and the sign.
 pub fn home_direction(code: u32, value: i32) -> [u8; 7]
     ensures { result ≡ home_text code value }
 {
-    [
-        b'L',
-        digit(code, 10),
-        digit(code, 1),
-        b' ',
-        sign(value),
-        b'\r',
-        b'\n',
-    ]
+    let mut text = *b"L00 +\r\n";
+    put_digits(&mut text[1..3], code);
+    text[4] = sign(value);
+    text
 }
 
 pub fn signed_value(code: u32, value: i32) -> [u8; 15]
     ensures { result ≡ coded_text code true value }
 {
-    let size = value.unsigned_abs();
-    [
-        b'L',
-        digit(code, 10),
-        digit(code, 1),
-        b' ',
-        sign(value),
-        digit(size, 10_000_000),
-        digit(size, 1_000_000),
-        digit(size, 100_000),
-        digit(size, 10_000),
-        digit(size, 1_000),
-        digit(size, 100),
-        digit(size, 10),
-        digit(size, 1),
-        b'\r',
-        b'\n',
-    ]
+    let mut text = *b"L00 +00000000\r\n";
+    put_digits(&mut text[1..3], code);
+    text[4] = sign(value);
+    put_digits(&mut text[5..13], value.unsigned_abs());
+    text
 }
 
 pub fn plain_value(code: u32, value: i32) -> [u8; 14]
     ensures { result ≡ coded_text code false value }
 {
-    let size = value.unsigned_abs();
-    [
-        b'L',
-        digit(code, 10),
-        digit(code, 1),
-        b' ',
-        digit(size, 10_000_000),
-        digit(size, 1_000_000),
-        digit(size, 100_000),
-        digit(size, 10_000),
-        digit(size, 1_000),
-        digit(size, 100),
-        digit(size, 10),
-        digit(size, 1),
-        b'\r',
-        b'\n',
-    ]
+    let mut text = *b"L00 00000000\r\n";
+    put_digits(&mut text[1..3], code);
+    put_digits(&mut text[4..12], value.unsigned_abs());
+    text
 }
 
-// Eight digits, 0 or 1.
-pub fn flags(a: bool, b: bool, c: bool, d: bool, e: bool, f: bool, g: bool, h: bool) -> [u8; 10]
-    ensures { result ≡ flags_text a b c d e f g h }
+// Eight digits, each for a switch or a state.
+pub fn flags(digits: [u8; 8]) -> [u8; 10]
+    ensures { result ≡ digits ++ end }
 {
-    [
-        bit(a),
-        bit(b),
-        bit(c),
-        bit(d),
-        bit(e),
-        bit(f),
-        bit(g),
-        bit(h),
-        b'\r',
-        b'\n',
-    ]
+    let mut text = *b"00000000\r\n";
+    text[..8].copy_from_slice(&digits);
+    text
 }

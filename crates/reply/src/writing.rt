@@ -3,9 +3,21 @@ ghost use Rattle.std.specs.Prelude.{◌≡◌, ◌≤◌, ◌++◌, length, drop
 ghost use Rattle.reply.specs.Texts.{text, parameter_text};
 
 use crate::answer::Answer;
+use crate::digits::bit;
 use crate::line::program_line;
 use crate::texts::{flags, home_direction, plain_value, pointer, position, signed_value};
+use codes::coded::Coded;
 use settings::parameter::Parameter;
+
+// Puts bytes at the front, and tells how many.
+fn put(out: &mut [u8], bytes: &[u8]) -> usize
+    requires { length bytes.now ≤ length out.old }
+    ensures count { result ≡ length bytes.now }
+    ensures bytes { out.new ≡ bytes.now ++ drop result out.old }
+{
+    out[..bytes.len()].copy_from_slice(bytes);
+    bytes.len()
+}
 
 // How many bytes were written, all at the front.
 pub fn write(out: &mut [u8], answer: Answer) -> usize
@@ -15,23 +27,11 @@ pub fn write(out: &mut [u8], answer: Answer) -> usize
 {
     match answer {
         Answer::Nothing => 0,
-        Answer::ProgramLine { number, fields } => {
-            out[0..30].copy_from_slice(&program_line(number, fields));
-            30
-        }
-        Answer::Pointer { number } => {
-            out[0..6].copy_from_slice(&pointer(number));
-            6
-        }
+        Answer::ProgramLine { number, fields } => put(out, &program_line(number, fields)),
+        Answer::Pointer { number } => put(out, &pointer(number)),
         Answer::Parameter { parameter, value } => write_parameter(out, parameter, value),
-        Answer::Unlisted => {
-            out[0..2].copy_from_slice(&[b'\r', b'\n']);
-            2
-        }
-        Answer::Position { count } => {
-            out[0..12].copy_from_slice(&position(count));
-            12
-        }
+        Answer::Unlisted => put(out, b"\r\n"),
+        Answer::Position { count } => put(out, &position(count)),
         Answer::Status {
             program,
             moving,
@@ -39,36 +39,41 @@ pub fn write(out: &mut [u8], answer: Answer) -> usize
             windings_off,
             high_speed,
             jog,
-        } => {
-            out[0..10].copy_from_slice(&flags(
-                program,
-                moving,
-                absolute,
-                windings_off,
-                false,
-                false,
-                high_speed,
-                jog,
-            ));
-            10
-        }
-        Answer::Outputs { second, first } => {
-            out[0..10].copy_from_slice(&flags(
-                false, false, false, false, false, false, second, first,
-            ));
-            10
-        }
+        } => put(
+            out,
+            &flags([
+                bit(program),
+                bit(moving),
+                bit(absolute),
+                bit(windings_off),
+                b'0',
+                b'0',
+                bit(high_speed),
+                bit(jog),
+            ]),
+        ),
+        Answer::Outputs { second, first } => put(
+            out,
+            &flags([b'0', b'0', b'0', b'0', b'0', b'0', bit(second), bit(first)]),
+        ),
         Answer::Inputs {
             fourth,
             third,
             second,
             first,
-        } => {
-            out[0..10].copy_from_slice(&flags(
-                false, false, false, false, fourth, third, second, first,
-            ));
-            10
-        }
+        } => put(
+            out,
+            &flags([
+                b'0',
+                b'0',
+                b'0',
+                b'0',
+                bit(fourth),
+                bit(third),
+                bit(second),
+                bit(first),
+            ]),
+        ),
     }
 }
 
@@ -78,14 +83,9 @@ fn write_parameter(out: &mut [u8], parameter: Parameter, value: i32) -> usize
     ensures bytes { out.new ≡ parameter_text parameter value ++ drop result out.old }
 {
     let code = u32::from(parameter.code());
-    if code == 8 {
-        out[0..7].copy_from_slice(&home_direction(code, value));
-        return 7;
+    match parameter {
+        Parameter::HomeDirection => put(out, &home_direction(code, value)),
+        _ if parameter.is_signed() => put(out, &signed_value(code, value)),
+        _ => put(out, &plain_value(code, value)),
     }
-    if parameter.is_signed() {
-        out[0..15].copy_from_slice(&signed_value(code, value));
-        return 15;
-    }
-    out[0..14].copy_from_slice(&plain_value(code, value));
-    14
 }

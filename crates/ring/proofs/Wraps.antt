@@ -1,6 +1,8 @@
 -- How a ring's contents change by a write behind them and by a step of their start.
-use Rattle.std.proofs.Common.{◌≡◌, ℕ, suc, ◌+◌, ◌-◌, ◌<◌, ◌≤◌, ◌⊎◌, List, [], ◌∷◌, ◌++◌, length, get_or, take, drop, set, sym, ap, ◌∙◌, inl, inr, arith}
+use Rattle.std.proofs.Common.{◌≡◌, ℕ, suc, ◌+◌, ◌-◌, ◌%◌, ◌<◌, ◌≤◌, ◌⊎◌, List, [], ◌∷◌, ◌++◌, length, get_or, take, drop, set, sym, ap, ◌∙◌, inl, inr, arith}
 use Rattle.std.proofs.lemmas.List.{length-set, length-drop, length-append, drop-append-le, take-append-le, drop-set-add, drop-set-lt, take_more_set, set-append_right, drop_more, get_or_append_left, drop_at}
+use Rattle.std.proofs.lemmas.Bool.Decides.{leb_tells}
+use Rattle.std.proofs.Math.Nat.{mod-eq_of_lt, mod-eq-sub-mod}
 use Rattle.ring.specs.Contents.{contents}
 
 -- the write falls before the slice's end
@@ -24,10 +26,24 @@ wrapped xs s n i y hn hs e =
     at : i ≡ n - (length xs - s)
     at = omega arith
 
-pub pushed : {X : Type 0} (xs : List X) (s n i : ℕ) (y : X) → n < length xs → s ≤ length xs → i < length xs
-    → (i ≡ s + n) ⊎ (i + length xs ≡ s + n) → contents (set xs i y) s (n + 1) ≡ contents xs s n ++ y ∷ []
-pushed xs s n i y hn hs hi (inl e) = rw e (straight xs s n y (omega arith))
-pushed xs s n i y hn hs hi (inr e) = wrapped xs s n i y hn hs e
+-- the cell k behind the start is before the slice's end, or follows it from its start
+turn : (s k n : ℕ) → s < n → k ≤ n → (s + k < n) × ((s + k) % n ≡ s + k) ⊎ (n ≤ s + k) × ((s + k) % n + n ≡ s + k)
+turn s k n hs hk =
+    elim (leb_tells (suc (s + k)) n) [
+      | inl t ↦ inl (omega (arith, t.1), mod-eq_of_lt (omega (arith, t.1)))
+      | inr t ↦
+          let past : n ≤ s + k = omega (arith, t.1) in
+          let less : (s + k - n) % n ≡ s + k - n = mod-eq_of_lt (omega arith) in
+          inr (past, omega (arith, mod-eq-sub-mod past, less))
+    ]
+
+pub pushed : {X : Type 0} (xs : List X) (s n i : ℕ) (y : X) → n < length xs → s < length xs → i ≡ (s + n) % length xs
+    → contents (set xs i y) s (n + 1) ≡ contents xs s n ++ y ∷ []
+pushed xs s n i y hn hs e =
+    elim (turn s n (length xs) hs (omega arith)) [
+      | inl t ↦ rw (e ∙ t.1) (straight xs s n y t.0)
+      | inr t ↦ wrapped xs s n i y hn (omega arith) (omega (arith, e, t.1))
+    ]
 
 -- the first of the contents
 first : {X : Type 0} (xs : List X) (s m : ℕ) (d : X) → s < length xs
@@ -36,14 +52,18 @@ first xs s m d hs =
     ap (take (suc m)) (drop_more (xs ++ xs) s d (simp length-append (omega arith)))
     ∙ ap (λ x. x ∷ take m (drop (s + 1) (xs ++ xs))) (get_or_append_left xs xs d s hs)
 
-rest : {X : Type 0} (xs : List X) (s t m : ℕ) → m ≤ length xs → (t ≡ s + 1) ⊎ ((s + 1 ≡ length xs) × (t ≡ 0))
-    → take m (drop (s + 1) (xs ++ xs)) ≡ contents xs t m
-rest xs s t m h (inl e) = ap (λ k. take m (drop k (xs ++ xs))) (sym e)
-rest xs s t m h (inr w) =
-    ap (take m) (drop_at xs xs (s + 1) (sym w.0)) ∙ sym (take-append-le m xs xs h) ∙ ap (λ k. contents xs k m) (sym w.1)
+rest : {X : Type 0} (xs : List X) (s m : ℕ) → m ≤ length xs → s < length xs → take m (drop (s + 1) (xs ++ xs)) ≡ contents xs ((s + 1) % length xs) m
+rest xs s m h hs =
+    elim (turn s 1 (length xs) hs (omega arith)) [
+      | inl t ↦ ap (λ k. take m (drop k (xs ++ xs))) (sym t.1)
+      | inr t ↦
+          let ends : length xs ≡ s + 1 = omega (arith, t.0) in
+          let begins : (s + 1) % length xs ≡ 0 = omega (arith, t.1) in
+          ap (take m) (drop_at xs xs (s + 1) ends) ∙ sym (take-append-le m xs xs h) ∙ ap (λ k. contents xs k m) (sym begins)
+    ]
 
-pub popped : {X : Type 0} (xs : List X) (s t n : ℕ) (d : X) → 0 < n → n ≤ length xs → s < length xs
-    → (t ≡ s + 1) ⊎ ((s + 1 ≡ length xs) × (t ≡ 0)) → contents xs s n ≡ get_or xs s d ∷ contents xs t (n - 1)
-popped xs s t n d hn hl hs w =
-    let e : n ≡ suc (n - 1) = omega arith in
-    ap (λ k. contents xs s k) e ∙ first xs s (n - 1) d hs ∙ ap (λ zs. get_or xs s d ∷ zs) (rest xs s t (n - 1) (omega arith) w)
+pub popped : {X : Type 0} (xs : List X) (s t n : ℕ) (d : X) → 0 < n → n ≤ length xs → s < length xs → t ≡ (s + 1) % length xs
+    → contents xs s n ≡ get_or xs s d ∷ contents xs t (n - 1)
+popped xs s t n d hn hl hs e =
+    let more : n ≡ suc (n - 1) = omega arith in
+    ap (λ k. contents xs s k) more ∙ first xs s (n - 1) d hs ∙ ap (λ zs. get_or xs s d ∷ zs) (rest xs s (n - 1) (omega arith) hs ∙ ap (λ k. contents xs k (n - 1)) (sym e))

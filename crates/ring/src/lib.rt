@@ -9,6 +9,7 @@ mod queue;
 #[derive(Clone, Copy, PartialEq, Eq, Debug)]
 pub struct Full;
 
+// A slice with a length beside it: the memory is the host's, of fixed size, and no heap is used.
 #[derive(Drop)]
 pub struct Ring<'a, T: Copy> {
     cells: &'a mut [T],

@@ -1,5 +1,5 @@
 // Putting into a ring and taking out of it.
-ghost use Rattle.std.specs.Prelude.{◌≡◌, ◌≤◌, [], ◌∷◌, ◌++◌, length, MatchOption, MatchResult};
+ghost use Rattle.std.specs.Prelude.{◌≡◌, ◌+◌, ◌%◌, ◌<◌, ◌≤◌, [], ◌∷◌, ◌++◌, length, IfNone, MatchOption, OnOk, OnErr};
 ghost use Rattle.ring.specs.Contents.{held, room};
 
 use crate::{Full, Ring};
@@ -24,40 +24,51 @@ impl<'a, T: Copy> Ring<'a, T> {
         self.len
     }
 
+    // The cell so many behind the oldest element's; the first cell follows the last.
+    // In two cases: the sum of the two may pass a usize where an element has no size.
+    fn cell(&self, behind: usize) -> usize
+        requires some { 0 < room self.now }
+        requires within { behind ≤ room self.now }
+        ensures cell { result ≡ (self.now.start + behind) % room self.now }
+        ensures within { result < room self.now }
+    {
+        let past = self.cells.len() - self.start;
+        if behind < past {
+            self.start + behind
+        } else {
+            behind - past
+        }
+    }
+
     // Behind all others; refused where there is no room, and then nothing changes.
     pub fn push(&mut self, element: T) -> Result<(), Full>
-        ensures held { MatchResult result (λ _. held self.new ≡ held self.old ++ element ∷ []) (λ _. (length (held self.old) ≡ room self.old) × (self.new ≡ self.old)) }
+        ensures last { OnOk result (held self.new ≡ held self.old ++ element ∷ []) }
+        ensures full { OnErr result (length (held self.old) ≡ room self.old) }
+        ensures unchanged { OnErr result (self.new ≡ self.old) }
         ensures room { room self.new ≡ room self.old }
     {
+        let len = self.len;
         let room = self.cells.len();
-        if self.len == room {
+        if len == room {
             return Err(Full);
         }
-        let past = room - self.start;
-        let i = if self.len < past {
-            self.start + self.len
-        } else {
-            self.len - past
-        };
-        self.cells[i] = element;
+        let free = self.cell(len);
+        self.cells[free] = element;
         self.len += 1;
         Ok(())
     }
 
     // The oldest element, whose room is free then; none where it is empty.
     pub fn take(&mut self) -> Option<T>
-        ensures held { MatchOption result ((held self.old ≡ []) × (self.new ≡ self.old)) (λ x. held self.old ≡ x ∷ held self.new) }
+        ensures oldest { MatchOption result (held self.old ≡ []) (λ x. held self.old ≡ x ∷ held self.new) }
+        ensures unchanged { IfNone result (self.new ≡ self.old) }
         ensures room { room self.new ≡ room self.old }
     {
         if self.len == 0 {
             return None;
         }
         let oldest = self.cells[self.start];
-        self.start = if self.start + 1 == self.cells.len() {
-            0
-        } else {
-            self.start + 1
-        };
+        self.start = self.cell(1);
         self.len -= 1;
         Some(oldest)
     }

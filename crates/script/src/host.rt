@@ -1,10 +1,10 @@
 // The bytes of a host line, as a row gives them.
 ghost use Rattle.std.specs.Prelude.{◌<◌, IfSome};
 
+use crate::fault::Fault;
 use crate::mistake::Mistake;
 use crate::row::Form;
 use scan::words::Words;
-use std::alloc::AllocError;
 
 // Without the one blank before it, and the carriage return that some hosts put before the line feed.
 fn typed(behind: &[u8]) -> &[u8] {
@@ -42,7 +42,7 @@ fn hex_byte(word: &[u8]) -> Option<u8> {
 }
 
 // Makes `line` what stands behind the row's name.
-pub fn fill(line: &mut Vec<u8>, row: &[u8], form: Form) -> Result<Result<(), Mistake>, AllocError> {
+pub fn fill(line: &mut Vec<u8>, row: &[u8], form: Form) -> Result<(), Fault> {
     line.clear();
     let mut words = Words::new(row);
     let _ = words.next();
@@ -50,12 +50,9 @@ pub fn fill(line: &mut Vec<u8>, row: &[u8], form: Form) -> Result<Result<(), Mis
         Form::Text => line.extend_from_slice(typed(words.rest()))?,
         Form::Hex => {
             for word in words {
-                let Some(byte) = hex_byte(word) else {
-                    return Ok(Err(Mistake::Hex));
-                };
-                line.push(byte)?;
+                line.push(hex_byte(word).ok_or(Mistake::Hex)?)?;
             }
         }
     }
-    Ok(Ok(()))
+    Ok(())
 }

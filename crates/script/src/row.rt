@@ -1,18 +1,12 @@
 // What a row asks for.
 use crate::mistake::Mistake;
 use axis::direction::Direction;
+use layers::allowance::Allowance;
 use scan::number::number;
 use scan::words::Words;
 
 // So much can be lent, in bytes or in lines.
 const MOST: u32 = 4096;
-
-// How far a fence lets its axis go from where it was made, in pulses.
-#[derive(Clone, Copy)]
-pub struct Allowance {
-    pub down: u32,
-    pub up: u32,
-}
 
 // The axis that a run is made on, by its layers from the top.
 #[derive(Clone, Copy)]

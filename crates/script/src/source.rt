@@ -1,6 +1,8 @@
 // Rows out of a stream of any bytes and any length, in memory of one row.
-ghost use Rattle.std.specs.Prelude.{◌≡◌, ◌+◌, ◌-◌, ◌^◌, ◌≤◌, min, IfOk, MatchOption, MatchResult};
+ghost use Rattle.std.specs.Prelude.{◌≡◌, ◌+◌, ◌-◌, ◌^◌, ◌≤◌, min, if◌then◌else◌, IfOk};
+ghost use Rattle.script.specs.Rows.{counted};
 
+use crate::fault::Fault;
 use crate::host::fill;
 use crate::mistake::Mistake;
 use crate::row;
@@ -49,13 +51,14 @@ impl<R: Read + Drop> Source<R> {
         self.number
     }
 
-    // The next row as it is read, or none at the end of the stream; each row is counted once.
-    pub fn next(&mut self) -> io::Result<Option<Result<Row, Mistake>>>
-        ensures { MatchResult result (λ row. MatchOption row (self.new.number ≡ self.old.number) (λ _. self.new.number ≡ min (self.old.number + 1) (2 ^ 64 - 1))) (λ _. self.new.number ≡ self.old.number) }
+    // The next row, or none at the end of the stream; a row that is read or has a mistake is counted, once.
+    pub fn next(&mut self) -> Result<Option<Row>, Fault>
+        ensures { self.new.number ≡ (if counted result then min (self.old.number + 1) (2 ^ 64 - 1) else self.old.number) }
     {
         self.row.clear();
         let mut long = false;
         let mut empty = true;
+        // A stream has no end that a proof could name.
         for _ in 0..u64::MAX {
             let Some(byte) = self.byte()? else {
                 break;
@@ -74,28 +77,26 @@ impl<R: Read + Drop> Source<R> {
             return Ok(None);
         }
         let read = if long {
-            Err(Mistake::Long)
+            Err(Fault::Mistake(Mistake::Long))
         } else {
-            self.meant()?
+            self.meant()
         };
+        if let Err(Fault::Io(error)) = read {
+            return Err(Fault::Io(error));
+        }
         self.number = self.number.saturating_add(1);
-        Ok(Some(read))
+        Ok(Some(read?))
     }
 
     // What the row asks for; where it has a host line, that is kept.
-    fn meant(&mut self) -> Result<Result<Row, Mistake>, AllocError>
+    fn meant(&mut self) -> Result<Row, Fault>
         ensures { self.new.number ≡ self.old.number }
     {
-        let read = row::read(self.row.as_slice());
-        let form = match read {
-            Ok(Row::Read(form)) => form,
-            Ok(Row::Line(form)) => form,
-            _ => return Ok(read),
-        };
-        if let Err(mistake) = fill(&mut self.line, self.row.as_slice(), form)? {
-            return Ok(Err(mistake));
+        let row = row::read(self.row.as_slice())?;
+        if let Row::Read(form) | Row::Line(form) = row {
+            fill(&mut self.line, self.row.as_slice(), form)?;
         }
-        Ok(read)
+        Ok(row)
     }
 
     // The host line of the row read last, where that has one.

@@ -1,6 +1,8 @@
 -- The table of parameters. R is the axis's resolution, S its top speed.
-use Rattle.std.specs.Prelude.{ℕ, Bool, true, false, ◌&&◌, ℤ, pos, negsuc, ◌==◌, int_le}
+use Rattle.std.specs.Prelude.{◌≡◌, ℕ, Bool, true, false, ◌&&◌, ℤ, pos, negsuc, ◌==◌, int_le, List, Some, refl}
 use Rattle.axis.specs.Resolutions.{top, speed_start, acceleration_start, low_speed_start, step_start}
+use Rattle.codes.specs.Coded.{coded_among}
+use Rattle.settings.specs.declared.coding.TheConstants.{ALL}
 use Rattle.settings.specs.declared.parameter.Parameter.{Parameter}
 use Rattle.settings.specs.declared.parameter.Parameter.TheVariants.{RunFormat, HomeDirection, JogSpeed, Acceleration, LowSpeed, StepLength, HomeSpeed, HomeOffset, ClockwiseLimit, CounterclockwiseLimit, StartLine, ChangeoverTime, SwitchInputs, FurtherRuns, TransferCode, Backlash, AutoReverse}
 
@@ -50,3 +52,27 @@ fits R p v = int_le (row R p).least v && int_le v (row R p).most
 
 abbrev pub same : Parameter → Parameter → Bool
 same p q = code p == code q
+
+unfoldable pub parameters : List Parameter
+parameters = ALL
+
+-- each is found by its number
+pub found : (p : Parameter) → coded_among code parameters (code p) ≡ Some p
+unfolding parameters
+found RunFormat = refl
+found HomeDirection = refl
+found JogSpeed = refl
+found Acceleration = refl
+found LowSpeed = refl
+found StepLength = refl
+found HomeSpeed = refl
+found HomeOffset = refl
+found ClockwiseLimit = refl
+found CounterclockwiseLimit = refl
+found StartLine = refl
+found ChangeoverTime = refl
+found SwitchInputs = refl
+found FurtherRuns = refl
+found TransferCode = refl
+found Backlash = refl
+found AutoReverse = refl

@@ -1,35 +1,38 @@
 // Values that are no numbers, by their numbers.
-ghost use Rattle.std.specs.Prelude.{◌≡◌, pos, negsuc, ◌≤ℤ◌, if◌then◌else◌, int_lt};
+ghost use Rattle.std.specs.Prelude.{◌≡◌, ◌≢◌, pos, negsuc, if◌then◌else◌, int_lt, MatchResult};
 ghost use Rattle.axis.specs.Steps.{step};
-ghost use Rattle.settings.specs.Values.{format_number, digit_of};
+ghost use Rattle.settings.specs.Values.{format_number};
+ghost use Rattle.settings.specs.declared.parameter.RunFormat.{RunFormat};
 
 use crate::parameter::RunFormat;
+use crate::values::OutOfRange;
 use axis::direction::Direction;
 
 impl RunFormat {
     pub fn number(self) -> i32
         ensures { result ≡ format_number self }
     {
-        match self {
-            RunFormat::SingleLine => 1,
-            RunFormat::Counted => 2,
-            RunFormat::Endless => 3,
-        }
+        self as i32
     }
+}
 
-    pub(crate) fn numbered(number: i32) -> RunFormat
-        requires { (pos 1 ≤ℤ number) × (number ≤ℤ pos 3) }
-        ensures { format_number result ≡ number }
-    {
+// A match of its own, which for three formats is shorter than a search by their numbers.
+impl TryFrom<i32> for RunFormat {
+    type Error = OutOfRange;
+
+    ghost try_from_gives = { λ number outcome. MatchResult outcome (λ format. format_number format ≡ number) (λ _. (format : RunFormat) → format_number format ≢ number) };
+
+    fn try_from(number: i32) -> Result<RunFormat, OutOfRange> {
         match number {
-            1 => RunFormat::SingleLine,
-            2 => RunFormat::Counted,
-            _ => RunFormat::Endless,
+            1 => Ok(RunFormat::SingleLine),
+            2 => Ok(RunFormat::Counted),
+            3 => Ok(RunFormat::Endless),
+            _ => Err(OutOfRange),
         }
     }
 }
 
-// Clockwise unless the number is below 0.
+// Clockwise unless the number is below 0. No conversion, since only the sign counts.
 pub fn signed_direction(number: i32) -> Direction
     ensures { step result ≡ (if int_lt number (pos 0) then negsuc 0 else pos 1) }
 {
@@ -38,17 +41,4 @@ pub fn signed_direction(number: i32) -> Direction
     } else {
         Direction::Clockwise
     }
-}
-
-pub fn switched(digit: i32) -> bool
-    requires { (pos 0 ≤ℤ digit) × (digit ≤ℤ pos 1) }
-    ensures { digit_of result ≡ digit }
-{
-    digit == 1
-}
-
-pub fn digit(on: bool) -> i32
-    ensures { result ≡ digit_of on }
-{
-    if on { 1 } else { 0 }
 }

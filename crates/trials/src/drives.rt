@@ -129,6 +129,21 @@ fn off_is_refused(rt: HostRuntime) {
     assert_eq!(rt; phase.shown(), Shown::Coils { bits: 0 });
 }
 
+#[test]
+fn shown_prints(rt: HostRuntime) -> Result<(), Fail> {
+    let counts = Shown::Counts {
+        clockwise: 3,
+        counterclockwise: LAST,
+    };
+    let coils = Shown::Coils { bits: 9 };
+    assert_eq!(rt;
+        format!(in rt.alloc(); "{counts}")?.as_str(),
+        "counts 3 4294967295"
+    );
+    assert_eq!(rt; format!(in rt.alloc(); "{coils}")?.as_str(), "coils 9");
+    Ok(())
+}
+
 const TWO_TURNS: [u8; 16] = [3, 2, 6, 4, 12, 8, 9, 1, 3, 2, 6, 4, 12, 8, 9, 1];
 
 const TWO_TURNS_BACK: [u8; 16] = [9, 8, 12, 4, 6, 2, 3, 1, 9, 8, 12, 4, 6, 2, 3, 1];

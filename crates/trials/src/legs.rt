@@ -1,7 +1,8 @@
 // The legs of an index and where they may end, worked by hand.
 use plan::fault::MoveFault;
+use plan::leg::Leg;
 use plan::legs::index;
-use plan::limits::check;
+use plan::limits::{check, Limits};
 use plan::route::Legs;
 use std::test::Fail;
 
@@ -24,27 +25,17 @@ const INDEXES: [(i32, i32, bool, i32, bool, [i64; 3]); 7] = [
 ];
 
 fn pulses(legs: Option<Legs>) -> [i64; 3] {
-    let Some(legs) = legs else {
-        return [0, 0, 0];
-    };
-    let second = match legs.second {
-        Some(leg) => leg.pulses,
-        None => 0,
-    };
-    let third = match legs.third {
-        Some(leg) => leg.pulses,
-        None => 0,
-    };
-    [legs.first.pulses, second, third]
+    let of = |leg: Option<Leg>| leg.map_or(0, |leg| leg.pulses);
+    legs.map_or([0; 3], |legs| {
+        [legs.first.pulses, of(legs.second), of(legs.third)]
+    })
 }
 
 #[test]
 fn legs_of_an_index(rt: HostRuntime) {
     for (x, counter, absolute, backlash, reverse, want) in INDEXES {
-        let legs = pulses(index(x, counter, absolute, backlash, reverse));
-        for i in 0..3 {
-            assert_eq!(rt; legs[i], want[i]);
-        }
+        let legs = index(x, counter, absolute, backlash, reverse);
+        assert_eq!(rt; pulses(legs), want);
     }
 }
 
@@ -66,10 +57,11 @@ fn where_legs_may_end(rt: HostRuntime) -> Result<(), Fail> {
         let Some(legs) = index(distance, counter, false, backlash, false) else {
             return Err(Fail::new("no legs"));
         };
-        match check(legs, counter, clockwise, counterclockwise) {
-            Ok(()) => assert!(rt; want.is_none()),
-            Err(fault) => assert!(rt; matches!(want, Some(w) if w == fault)),
-        }
+        let limits = Limits {
+            clockwise,
+            counterclockwise,
+        };
+        assert_eq!(rt; check(legs, counter, limits).err(), want);
     }
     Ok(())
 }

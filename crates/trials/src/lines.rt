@@ -1,4 +1,5 @@
 // Host lines as users type them, worked by hand, on a board of resolution 10.
+use codes::coded::Coded;
 use codes::host::HostCode;
 use codes::program::ProgramCode;
 use orders::fault::WordFault;

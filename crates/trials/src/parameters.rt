@@ -1,4 +1,5 @@
 // The table of parameters at resolution 10: code, least, greatest, start.
+use codes::coded::Coded;
 use pin::drive::PinAxis;
 use settings::parameter::Parameter;
 use settings::values::Settings;
@@ -23,18 +24,11 @@ const TABLE: [(u8, i32, i32, i32); 16] = [
     (67, 0, 1, 0),
 ];
 
-fn named(code: u8) -> Result<Parameter, Fail> {
-    match Parameter::coded(code) {
-        Some(parameter) => Ok(parameter),
-        None => Err(Fail::new("no such parameter")),
-    }
-}
-
 #[test]
 fn ends_of_ranges(rt: HostRuntime) -> Result<(), Fail> {
     let mut settings = Settings::new::<PinAxis>();
     for (code, least, most, start) in TABLE {
-        let parameter = named(code)?;
+        let parameter = Parameter::try_from(u32::from(code))?;
         assert_eq!(rt; parameter.code(), code);
         assert_eq!(rt; settings.get(parameter), start);
         assert!(rt; settings.set(parameter, least.saturating_sub(1)).is_err());
@@ -52,7 +46,7 @@ fn ends_of_ranges(rt: HostRuntime) -> Result<(), Fail> {
 #[test]
 fn home_direction(rt: HostRuntime) -> Result<(), Fail> {
     let mut settings = Settings::new::<PinAxis>();
-    let home = named(8)?;
+    let home = Parameter::try_from(8)?;
     assert_eq!(rt; settings.get(home), 1);
     for (number, kept) in [(-1, -1), (0, 1), (i32::MIN, -1), (i32::MAX, 1), (-99, -1)] {
         assert!(rt; settings.set(home, number).is_ok());
@@ -63,11 +57,8 @@ fn home_direction(rt: HostRuntime) -> Result<(), Fail> {
 
 #[test]
 fn no_other_codes(rt: HostRuntime) {
-    let mut count = 0u8;
-    for code in 0..=255u8 {
-        if Parameter::coded(code).is_some() {
-            count = count.saturating_add(1);
-        }
-    }
+    let count = (0..=255)
+        .filter(|&code| Parameter::coded(code).is_some())
+        .count();
     assert_eq!(rt; count, 17);
 }

@@ -148,9 +148,7 @@ const SENT: [(u8, &[u8]); 17] = [
 fn parameters_sent(rt: HostRuntime) -> Result<(), Fail> {
     let settings = Settings::new::<PinAxis>();
     for (code, want) in SENT {
-        let Some(parameter) = Parameter::coded(code) else {
-            return Err(Fail::new("no such parameter"));
-        };
+        let parameter = Parameter::try_from(u32::from(code))?;
         let value = settings.get(parameter);
         sent(&rt, Answer::Parameter { parameter, value }, want);
     }

@@ -56,8 +56,8 @@ fn turned_once(rt: HostRuntime) {
 #[test]
 fn limits_or_inputs(rt: HostRuntime) {
     let mut panel = Panel::new();
-    for _ in 0..3 {
-        panel.sample(0x21);
+    for sample in [0x21; 3] {
+        panel.sample(sample);
     }
     assert!(rt; panel.forbids(Direction::Clockwise, false));
     assert!(rt; !panel.forbids(Direction::Counterclockwise, false));

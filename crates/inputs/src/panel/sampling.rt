@@ -1,7 +1,7 @@
 // Samples, and what they come to.
 ghost use Rattle.std.specs.Prelude.{◌≡◌};
 ghost use Rattle.inputs.specs.Contacts.{inactive, sampled};
-ghost use Rattle.inputs.specs.Panels.{contact, active, turned, forbidden, read};
+ghost use Rattle.inputs.specs.Panels.{contact, active, turns, turned, forbidden, read};
 ghost use Rattle.inputs.specs.Switches.{bit};
 ghost use Rattle.inputs.specs.declared.switch.Switch.{Switch};
 ghost use Rattle.inputs.specs.declared.switch.Switch.TheVariants.{Home};
@@ -17,15 +17,27 @@ impl Panel {
         ensures { (s : Switch) → contact result s ≡ inactive }
     {
         Panel {
-            clockwise_limit: Contact::new(),
-            counterclockwise_limit: Contact::new(),
-            home: Contact::new(),
-            clear: Contact::new(),
-            hold: Contact::new(),
-            first_input: Contact::new(),
-            second_input: Contact::new(),
-            stop: Contact::new(),
+            contacts: [Contact::new(); 8],
         }
+    }
+
+    fn contact(&self, switch: Switch) -> Contact
+        ensures { result ≡ contact self.now switch }
+    {
+        self.contacts[switch as usize]
+    }
+
+    fn is_active(&self, switch: Switch) -> bool
+        ensures { result ≡ active self.now switch }
+    {
+        self.contact(switch).is_active()
+    }
+
+    // Active now, and not before.
+    fn turns(&self, was: &Panel, switch: Switch) -> bool
+        ensures { result ≡ turns was.now self.now switch }
+    {
+        self.is_active(switch) && !was.is_active(switch)
     }
 
     // Takes a sample of all eight, and tells what turned active.
@@ -34,22 +46,11 @@ impl Panel {
         ensures turned { result ≡ turned self.old self.new }
     {
         let was = *self;
-        self.clockwise_limit = was
-            .clockwise_limit
-            .sampled(Switch::ClockwiseLimit.is_in(sample));
-        self.counterclockwise_limit = was
-            .counterclockwise_limit
-            .sampled(Switch::CounterclockwiseLimit.is_in(sample));
-        self.home = was.home.sampled(Switch::Home.is_in(sample));
-        self.clear = was.clear.sampled(Switch::Clear.is_in(sample));
-        self.hold = was.hold.sampled(Switch::Hold.is_in(sample));
-        self.first_input = was.first_input.sampled(Switch::FirstInput.is_in(sample));
-        self.second_input = was.second_input.sampled(Switch::SecondInput.is_in(sample));
-        self.stop = was.stop.sampled(Switch::Stop.is_in(sample));
+        self.contacts = Switch::ALL.map(|switch| was.contact(switch).sampled(switch.is_in(sample)));
         Turned {
-            clear: self.clear.is_active() && !was.clear.is_active(),
-            hold: self.hold.is_active() && !was.hold.is_active(),
-            stop: self.stop.is_active() && !was.stop.is_active(),
+            clear: self.turns(&was, Switch::Clear),
+            hold: self.turns(&was, Switch::Hold),
+            stop: self.turns(&was, Switch::Stop),
         }
     }
 
@@ -57,20 +58,18 @@ impl Panel {
     pub fn is_home(&self) -> bool
         ensures { result ≡ active self.now Home }
     {
-        self.home.is_active()
+        self.is_active(Switch::Home)
     }
 
     // Whether the limit switch of this way forbids pulses; as inputs 3 and 4 the switches forbid none.
     pub fn forbids(&self, way: Direction, as_inputs: bool) -> bool
         ensures { result ≡ forbidden self.now way as_inputs }
     {
-        if as_inputs {
-            return false;
-        }
-        match way {
-            Direction::Clockwise => self.clockwise_limit.is_active(),
-            Direction::Counterclockwise => self.counterclockwise_limit.is_active(),
-        }
+        let limit = match way {
+            Direction::Clockwise => Switch::ClockwiseLimit,
+            Direction::Counterclockwise => Switch::CounterclockwiseLimit,
+        };
+        !as_inputs && self.is_active(limit)
     }
 
     // Whether an input is active; none where it is not in use.
@@ -78,22 +77,10 @@ impl Panel {
         ensures { result ≡ read self.now input as_inputs }
     {
         match input {
-            Input::First => Some(self.first_input.is_active()),
-            Input::Second => Some(self.second_input.is_active()),
-            Input::Third => {
-                if as_inputs {
-                    Some(self.clockwise_limit.is_active())
-                } else {
-                    None
-                }
-            }
-            Input::Fourth => {
-                if as_inputs {
-                    Some(self.counterclockwise_limit.is_active())
-                } else {
-                    None
-                }
-            }
+            Input::First => Some(self.is_active(Switch::FirstInput)),
+            Input::Second => Some(self.is_active(Switch::SecondInput)),
+            Input::Third => as_inputs.then_some(self.is_active(Switch::ClockwiseLimit)),
+            Input::Fourth => as_inputs.then_some(self.is_active(Switch::CounterclockwiseLimit)),
         }
     }
 }

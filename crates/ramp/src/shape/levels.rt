@@ -1,11 +1,11 @@
 // The rate of a level, the level that a move climbs to, and the level of its next pulse.
-ghost use Rattle.std.specs.Prelude.{◌≡◌, false, MatchOption};
+ghost use Rattle.std.specs.Prelude.{◌≡◌, false, IfSome, MatchOption};
 ghost use Rattle.ramp.specs.Rates.{in_range};
 ghost use Rattle.ramp.specs.Levels.{next_level};
-ghost use Rattle.ramp.specs.Courses.{rate_of, ceiling_of, Ceiling};
+ghost use Rattle.ramp.specs.Courses.{HasNumbers, rate_of, ceiling_of, Ceiling};
 
 use super::Ramp;
-use crate::climb;
+use crate::climb::Climb;
 use crate::mode::SpeedMode;
 use crate::motor::Motor;
 use crate::rate::Rate;
@@ -13,25 +13,20 @@ use crate::rate::Rate;
 impl Ramp {
     // None where a number is out of its range, or the low speed is 0 at low speed.
     pub fn new(mode: SpeedMode, low: u32, acceleration: u32, speed: u32) -> Option<Ramp>
-        ensures { MatchOption result (in_range mode low acceleration speed ≡ false) (λ a. (a.mode ≡ mode) × (a.low ≡ low) × (a.acceleration ≡ acceleration) × (a.speed ≡ speed)) }
+        ensures numbers { MatchOption result (in_range mode low acceleration speed ≡ false) (λ a. HasNumbers low acceleration speed a.climb) }
+        ensures mode { IfSome result (λ a. a.mode ≡ mode) }
     {
-        if low > 1_875_000
-            || acceleration < 1
-            || acceleration > 99_999_999
-            || speed < 1
-            || speed > 1_875_000
-        {
+        let climb = Climb::new(low, acceleration, speed)?;
+        if !mode.drives(low) {
             return None;
         }
-        if !climb::drives(mode, low) {
-            return None;
-        }
-        let ceiling = climb::ceiling(mode, low, acceleration, speed);
+        let ceiling = match mode {
+            SpeedMode::Low => 0,
+            SpeedMode::High => climb.ceiling(),
+        };
         Some(Ramp {
             mode,
-            low,
-            acceleration,
-            speed,
+            climb,
             ceiling,
         })
     }
@@ -48,13 +43,10 @@ impl Ramp {
         ensures { result.per_second ≡ rate_of self.now level }
     {
         match self.mode {
-            SpeedMode::Low => Rate::of(self.low),
-            SpeedMode::High => Rate::of(climb::rate(
-                self.low,
-                self.acceleration,
-                self.speed,
-                level,
-            )),
+            SpeedMode::Low => Rate {
+                per_second: self.climb.low,
+            },
+            SpeedMode::High => self.climb.rate(level),
         }
     }
 
@@ -65,8 +57,8 @@ impl Ramp {
         match motor {
             Motor::AtRest => 0,
             Motor::Running { level } => {
-                let lowest = left.saturating_sub(1) as u64;
-                (level as u64 + 1).min(self.ceiling.min(lowest)) as u32
+                let lowest = u64::from(left.saturating_sub(1));
+                (u64::from(level) + 1).min(self.ceiling.min(lowest)) as u32
             }
         }
     }

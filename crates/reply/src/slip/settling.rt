@@ -2,9 +2,10 @@
 ghost use Rattle.std.specs.Prelude.{◌≡◌, ◌<◌, ◌≤◌, true, false, ◌++◌, length, drop, MatchResult};
 ghost use Rattle.reply.specs.Slips.{owed, refused};
 
-use super::{Outcome, Refusal, Slip};
+use super::Slip;
 use crate::answer::Answer;
 use crate::writing::write;
+use program::fault::OrderFault;
 
 // The memory for an answer is less than this; its number on the card is 2.
 const ROOM: usize = 64;
@@ -21,7 +22,7 @@ impl NoRoom {
 }
 
 impl Slip {
-    pub fn new(outcome: Outcome) -> Slip
+    pub fn new(outcome: Result<Answer, OrderFault>) -> Slip
         ensures outcome { result.outcome ≡ outcome }
         ensures open { result.settled ≡ false }
     {
@@ -32,13 +33,10 @@ impl Slip {
     }
 
     // Why the line was refused; none where it was accepted.
-    pub fn refusal(&self) -> Option<Refusal>
+    pub fn refusal(&self) -> Option<OrderFault>
         ensures { result ≡ refused self.now.outcome }
     {
-        match self.outcome {
-            Outcome::Accepted(_) => None,
-            Outcome::Refused(refusal) => Some(refusal),
-        }
+        self.outcome.err()
     }
 
     // Writes the answer at the front of `out`: nothing for silence or a refused line. Under 64 bytes nothing is written.
@@ -53,8 +51,8 @@ impl Slip {
             return Err(NoRoom);
         }
         match self.outcome {
-            Outcome::Accepted(answer) => Ok(write(out, answer)),
-            Outcome::Refused(_) => Ok(0),
+            Ok(answer) => Ok(write(out, answer)),
+            Err(_) => Ok(0),
         }
     }
 }

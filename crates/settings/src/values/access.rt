@@ -1,16 +1,19 @@
 // Reading and setting parameters.
-ghost use Rattle.std.specs.Prelude.{◌≡◌, true, false, cond, pos, MatchResult};
+ghost use Rattle.std.specs.Prelude.{◌≡◌, ◌↔◌, true, false, pos, IsOk, MatchResult};
+ghost use Rattle.std.specs.Range.{range_inclusive_start, range_inclusive_end, range_inclusive_exhausted};
 ghost use Rattle.axis.specs.Resolutions.{top};
 ghost use Rattle.settings.specs.Parameters.{row, fits};
 ghost use Rattle.settings.specs.Values.{value, Put};
 
 use super::{OutOfRange, Settings};
-use crate::numbers::{digit, signed_direction, switched};
+use crate::numbers::signed_direction;
 use crate::parameter::{Parameter, RunFormat};
 use axis::direction::Direction;
+use std::ops::RangeInclusive;
 
 const EIGHT_DIGITS: i32 = 99_999_999;
 
+// Tables, since the users of Settings wanted each parameter as a named field.
 impl Settings {
     pub fn get(&self, parameter: Parameter) -> i32
         ensures { result ≡ value self.now parameter }
@@ -28,36 +31,38 @@ impl Settings {
             Parameter::CounterclockwiseLimit => self.counterclockwise_limit,
             Parameter::StartLine => self.start_line,
             Parameter::ChangeoverTime => self.changeover_time,
-            Parameter::SwitchInputs => digit(self.switch_inputs),
+            Parameter::SwitchInputs => i32::from(self.switch_inputs),
             Parameter::FurtherRuns => self.further_runs,
             Parameter::TransferCode => self.transfer_code,
             Parameter::Backlash => self.backlash,
-            Parameter::AutoReverse => digit(self.auto_reverse),
+            Parameter::AutoReverse => i32::from(self.auto_reverse),
         }
     }
 
     // The least and the greatest value of a parameter.
-    pub fn range(&self, parameter: Parameter) -> (i32, i32)
-        ensures { (result.0 ≡ (row self.now.resolution parameter).least) × (result.1 ≡ (row self.now.resolution parameter).most) }
+    pub fn range(&self, parameter: Parameter) -> RangeInclusive<i32>
+        ensures least { range_inclusive_start result ≡ (row self.now.resolution parameter).least }
+        ensures most { range_inclusive_end result ≡ (row self.now.resolution parameter).most }
+        ensures unspent { range_inclusive_exhausted result ≡ false }
     {
         match parameter {
-            Parameter::RunFormat => (1, 3),
-            Parameter::HomeDirection => (i32::MIN, i32::MAX),
-            Parameter::JogSpeed => (1, self.top_speed()),
-            Parameter::HomeSpeed => (1, self.top_speed()),
-            Parameter::LowSpeed => (0, self.top_speed()),
-            Parameter::Acceleration => (1, EIGHT_DIGITS),
-            Parameter::StepLength => (1, EIGHT_DIGITS),
-            Parameter::HomeOffset => (-EIGHT_DIGITS, EIGHT_DIGITS),
-            Parameter::ClockwiseLimit => (-EIGHT_DIGITS, EIGHT_DIGITS),
-            Parameter::CounterclockwiseLimit => (-EIGHT_DIGITS, EIGHT_DIGITS),
-            Parameter::Backlash => (-EIGHT_DIGITS, EIGHT_DIGITS),
-            Parameter::StartLine => (1, 400),
-            Parameter::ChangeoverTime => (0, 9_999),
-            Parameter::SwitchInputs => (0, 1),
-            Parameter::AutoReverse => (0, 1),
-            Parameter::FurtherRuns => (0, EIGHT_DIGITS),
-            Parameter::TransferCode => (0, 99),
+            Parameter::RunFormat => 1..=3,
+            Parameter::HomeDirection => i32::MIN..=i32::MAX,
+            Parameter::JogSpeed => 1..=self.top_speed(),
+            Parameter::HomeSpeed => 1..=self.top_speed(),
+            Parameter::LowSpeed => 0..=self.top_speed(),
+            Parameter::Acceleration => 1..=EIGHT_DIGITS,
+            Parameter::StepLength => 1..=EIGHT_DIGITS,
+            Parameter::HomeOffset => -EIGHT_DIGITS..=EIGHT_DIGITS,
+            Parameter::ClockwiseLimit => -EIGHT_DIGITS..=EIGHT_DIGITS,
+            Parameter::CounterclockwiseLimit => -EIGHT_DIGITS..=EIGHT_DIGITS,
+            Parameter::Backlash => -EIGHT_DIGITS..=EIGHT_DIGITS,
+            Parameter::StartLine => 1..=400,
+            Parameter::ChangeoverTime => 0..=9_999,
+            Parameter::SwitchInputs => 0..=1,
+            Parameter::AutoReverse => 0..=1,
+            Parameter::FurtherRuns => 0..=EIGHT_DIGITS,
+            Parameter::TransferCode => 0..=99,
         }
     }
 
@@ -71,27 +76,23 @@ impl Settings {
         }
     }
 
-    // Refused where the number is out of the parameter's range, and then nothing changes.
-    pub fn set(&mut self, parameter: Parameter, number: i32) -> Result<(), OutOfRange>
-        ensures { MatchResult result (λ _. (fits self.old.resolution parameter number ≡ true) × Put self.old self.new parameter number) (λ _. (fits self.old.resolution parameter number ≡ false) × (self.new ≡ self.old)) }
+    // Whether the number is in the parameter's range.
+    pub fn takes(&self, parameter: Parameter, number: i32) -> bool
+        ensures { result ≡ fits self.now.resolution parameter number }
     {
-        let (least, most) = self.range(parameter);
-        if number < least {
-            return Err(OutOfRange);
-        }
-        if number > most {
-            return Err(OutOfRange);
-        }
-        self.store(parameter, number);
-        Ok(())
+        self.range(parameter).contains(&number)
     }
 
-    fn store(&mut self, parameter: Parameter, number: i32)
-        requires { fits self.old.resolution parameter number ≡ true }
-        ensures { Put self.old self.new parameter number }
+    // Refused where the number is out of the parameter's range, and then nothing changes.
+    pub fn set(&mut self, parameter: Parameter, number: i32) -> Result<(), OutOfRange>
+        ensures taken { IsOk result ↔ (fits self.old.resolution parameter number ≡ true) }
+        ensures put { MatchResult result (λ _. Put self.old self.new parameter number) (λ _. self.new ≡ self.old) }
     {
+        if !self.takes(parameter, number) {
+            return Err(OutOfRange);
+        }
         match parameter {
-            Parameter::RunFormat => self.run_format = RunFormat::numbered(number),
+            Parameter::RunFormat => self.run_format = RunFormat::try_from(number)?,
             Parameter::HomeDirection => self.home_direction = signed_direction(number),
             Parameter::JogSpeed => self.jog_speed = number,
             Parameter::Acceleration => self.acceleration = number,
@@ -103,11 +104,12 @@ impl Settings {
             Parameter::CounterclockwiseLimit => self.counterclockwise_limit = number,
             Parameter::StartLine => self.start_line = number,
             Parameter::ChangeoverTime => self.changeover_time = number,
-            Parameter::SwitchInputs => self.switch_inputs = switched(number),
+            Parameter::SwitchInputs => self.switch_inputs = number == 1,
             Parameter::FurtherRuns => self.further_runs = number,
             Parameter::TransferCode => self.transfer_code = number,
             Parameter::Backlash => self.backlash = number,
-            Parameter::AutoReverse => self.auto_reverse = switched(number),
+            Parameter::AutoReverse => self.auto_reverse = number == 1,
         }
+        Ok(())
     }
 }

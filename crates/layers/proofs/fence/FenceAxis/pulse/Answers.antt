@@ -1,20 +1,18 @@
-use Rattle.std.proofs.Common.{rules}
-use Rattle.axis.specs.Steps.{step}
-use Rattle.layers.proofs.Fenced.{taken_inside, low_stays, high_stays}
+use Rattle.layers.proofs.Fenced.{fenced, same_base}
 use Rattle.layers.proofs.fence.FenceAxis.pulse.Goals as goal
 
-pub returns : goal.returns
-returns g c =
-    let s = c.args.self.now in
-    let a = g.X.Axis in
-    let moved = c.in-Some.ensures in
-    let t = c.pulse.new.self in
+pub returns-clause-taken : goal.returns-clause-taken
+returns-clause-taken g c =
+    let inside = c.in-Some.ensures.some in
+    let below = c.if-not-pulse.ensures.taken in
+    simp (fenced, inside) below
+
+pub returns-clause-low : goal.returns-clause-low
+returns-clause-low g c =
     let below = c.if-not-pulse.ensures in
-    record {
-      taken = taken_inside (a.powered s.below) (a.low s.below) (a.high s.below) (a.place s.below) s.span.net s.span.down s.span.up c.args.way moved.0 below.taken;
-      place = search rules;
-      low = low_stays (a.low s.below) (a.low t) (a.place s.below) (a.place t) s.span.net c.in-Some.next.net (step c.args.way) s.span.down c.in-Some.next.down below.low below.place moved.3 moved.1;
-      high = high_stays (a.high s.below) (a.high t) (a.place s.below) (a.place t) s.span.net c.in-Some.next.net (step c.args.way) s.span.up c.in-Some.next.up below.high below.place moved.3 moved.2;
-      powered = search rules;
-      refused = search rules;
-    }
+    simp (c.in-Some.ensures.allowance, c.in-Some.ensures.net, below.low, below.place, same_base)
+
+pub returns-clause-high : goal.returns-clause-high
+returns-clause-high g c =
+    let below = c.if-not-pulse.ensures in
+    simp (c.in-Some.ensures.allowance, c.in-Some.ensures.net, below.high, below.place, same_base)

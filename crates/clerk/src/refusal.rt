@@ -1,0 +1,51 @@
+// Why a host hears a refusal.
+ghost use Rattle.std.specs.Prelude.{◌≡◌};
+ghost use Rattle.clerk.specs.Refusals.{number_of, place_of};
+ghost use Rattle.clerk.specs.declared.refusal.Refusal.TheVariants as fault;
+
+use program::fault::OrderFault;
+use reply::slip::settling::NoRoom;
+use std::fmt;
+
+#[derive(Clone, Copy, PartialEq, Eq, Debug)]
+pub enum Refusal {
+    Order(OrderFault),
+    // The line was accepted, and there is too little memory for its answer.
+    NoRoom,
+}
+
+impl From<NoRoom> for Refusal {
+    ghost from_gives = { λ _ r. r ≡ fault.NoRoom };
+
+    fn from(_short: NoRoom) -> Refusal {
+        Refusal::NoRoom
+    }
+}
+
+impl Refusal {
+    // Its number on the refusal card.
+    pub fn number(self) -> u8
+        ensures { result ≡ number_of self }
+    {
+        match self {
+            Refusal::Order(fault) => fault.number(),
+            Refusal::NoRoom => NoRoom.number(),
+        }
+    }
+
+    // The place of the byte or word, 0 where there is none.
+    pub fn place(self) -> usize
+        ensures { result ≡ place_of self }
+    {
+        match self {
+            Refusal::Order(fault) => fault.place(),
+            Refusal::NoRoom => 0,
+        }
+    }
+}
+
+impl fmt::Display for Refusal {
+    fn fmt<W: fmt::Write>(&self, f: &mut fmt::Formatter<W>) -> fmt::Result {
+        write!(f, "refused {} at {}", self.number(), self.place())
+    }
+}

@@ -1,0 +1,2 @@
+mod Formats
+mod Ranges
