@@ -1,5 +1,6 @@
 -- The law of blanks.
-use Rattle.std.proofs.Common.{◌≡◌, ℕ, suc, ◌<◌, ◌≤◌, Bool, true, false, cond, ◌&&◌, eqb, List, [], ◌∷◌, length, get_or, drop, Err, Result, sym, refl, ap, ◌∙◌, inl, inr, arith}
+use Rattle.std.proofs.Common.{◌≡◌, ℕ, suc, ◌<◌, ◌≤◌, Bool, true, false, cond, eqb, List, [], ◌∷◌, length, get_or, drop, Err, Result, sym, refl, ap, ◌∙◌, inl, inr, arith}
+use Rattle.std.proofs.lemmas.Bool.{le-ltb, ne_eqb, and_right}
 use Rattle.std.proofs.lemmas.Bool.Decides.{nat_tests}
 use Rattle.scan.specs.Runs.{past}
 use Rattle.words.specs.Bytes.{blank}
@@ -9,30 +10,24 @@ use Rattle.orders.specs.Laws.{unplaced, Wider, Plain, BlankLaw}
 use Rattle.orders.specs.declared.order.Order.{Order}
 use Rattle.orders.specs.declared.fault.WordFault.{WordFault}
 use Rattle.orders.specs.declared.fault.WordFault.TheVariants.{Byte}
-use Rattle.orders.proofs.ByKind.{short}
-use Rattle.orders.proofs.Outcomes.{other}
 use Rattle.orders.proofs.Widening.{Tight, tight, blank_more, past_on}
 use Rattle.orders.proofs.Unplaced.{same_order, same_transfer}
 
-and_not : (a b : Bool) → b ≡ false → (a && b) ≡ false
-and_not true b e = e
-and_not false b e = refl
-
 elsewhere : (b : ℕ) (bs : List ℕ) → (get_or bs 0 0 ≡ b → ⊥) → alone b bs ≡ false
-elsewhere b bs h = and_not (eqb (length bs) 1) (eqb (get_or bs 0 0) b) (other (get_or bs 0 0) b h)
+elsewhere b bs h = and_right (eqb (length bs) 1) (eqb (get_or bs 0 0) b) (ne_eqb (get_or bs 0 0) b h)
 
 -- blank, behind `!`, or words
 abbrev by_front : ℕ → Bool → Bool → List ℕ → Result Order WordFault
 by_front R none bang bs = cond none (Err (Byte Blank)) (cond bang (of_transfer R (length bs) (drop 1 bs)) (of_words R (length bs) bs))
 
 plain : (R : ℕ) (bs : List ℕ) → length bs ≤ 80 → Plain bs → reading R bs ≡ by_front R (eqb (length (past blank bs)) 0) (eqb (get_or bs 0 0) 33) bs
-plain R bs h p = rw (short (length bs) h, elsewhere 42 bs p.0, elsewhere 36 bs p.1, elsewhere 35 bs p.2)
+plain R bs h p = rw (le-ltb 80 (length bs) h, elsewhere 42 bs p.0, elsewhere 36 bs p.1, elsewhere 35 bs p.2)
 
 tight_empty : (xs ys : List ℕ) → Tight xs ys → eqb (length ys) 0 ≡ eqb (length xs) 0
 tight_empty [] [] t = refl
 tight_empty [] (y ∷ ys) t = elim t [ ]
 tight_empty (x ∷ xs) [] t = elim t [ ]
-tight_empty (x ∷ xs) (y ∷ ys) t = other (suc (length ys)) 0 (λ e. omega arith) ∙ sym (other (suc (length xs)) 0 (λ e. omega arith))
+tight_empty (x ∷ xs) (y ∷ ys) t = ne_eqb (suc (length ys)) 0 (λ e. omega arith) ∙ sym (ne_eqb (suc (length xs)) 0 (λ e. omega arith))
 
 wider_length : (xs ys : List ℕ) → Wider xs ys → length ys ≤ suc (length xs)
 wider_length [] ys (inl e) = let n : length ys ≡ 0 = ap length e in omega arith
@@ -67,7 +62,7 @@ fronted R bs p h bang =
     ap (unplaced {T = Order}) (plain R (32 ∷ bs) (omega arith) ((λ e. omega arith), (λ e. omega arith), (λ e. omega arith)))
     ∙ ap (λ zs. unplaced (by_front R (eqb (length zs) 0) false (32 ∷ bs))) (past_on blank 32 bs refl)
     ∙ by (eqb (length (past blank bs)) 0)
-    ∙ ap (λ k. unplaced (by_front R (eqb (length (past blank bs)) 0) k bs)) (sym (other (get_or bs 0 0) 33 bang))
+    ∙ ap (λ k. unplaced (by_front R (eqb (length (past blank bs)) 0) k bs)) (sym (ne_eqb (get_or bs 0 0) 33 bang))
     ∙ sym (ap (unplaced {T = Order}) (plain R bs (omega arith) p))
   where
     by : (none : Bool) → unplaced (by_front R none false (32 ∷ bs)) ≡ unplaced (by_front R none false bs)

@@ -4,7 +4,7 @@ use Rattle.scan.specs.Runs.{run, past}
 use Rattle.words.specs.Bytes.{blank, letter}
 use Rattle.words.specs.Words.{behind}
 use Rattle.words.specs.Checking.{first_bad}
-use Rattle.orders.proofs.Outcomes.{none_some, same_some}
+use Rattle.std.proofs.lemmas.Option.{none-some, same_Some}
 use Rattle.orders.proofs.Widening.{split, past_on, past_at}
 use Rattle.words.proofs.Scans.{at_end}
 use Rattle.orders.proofs.Spacing.{bad_from, goes_on, bad_here}
@@ -79,14 +79,14 @@ module _ (k n : ℕ) (bs : List ℕ) (p : ℕ) (fits : length bs ≤ n) where
 
 found_from : (k n : ℕ) (bs : List ℕ) (p : ℕ) → length bs ≤ n → ((xs : List ℕ) → length xs ≤ n → first_bad k n xs ≡ Some p → Found n xs p)
     → (zs : List ℕ) → past blank bs ≡ zs → bad_from k n zs ≡ Some p → Found n bs p
-found_from k n bs p fits on [] e is = absurd (none_some p is)
+found_from k n bs p fits on [] e is = absurd (none-some p is)
 found_from k n bs p fits on (z ∷ zs) e is =
     split (letter z)
     (λ t.
     let short : length zs ≤ length bs = (let h = shorter blank bs in let l : length (past blank bs) ≡ suc (length zs) = ap length e in omega arith) in
     later k n bs p fits z zs e t (on (behind z zs) (let h = behind_shorter z zs in omega arith) (sym (goes_on k n z zs t) ∙ is)))
-    (λ f. at_once k n bs p fits z zs e f (same_some (n - length zs) p (sym (bad_here k n z zs f) ∙ is)))
+    (λ f. at_once k n bs p fits z zs e f (same_Some (n - length zs) p (sym (bad_here k n z zs f) ∙ is)))
 
 pub found : (k n : ℕ) (bs : List ℕ) (p : ℕ) → length bs ≤ n → first_bad k n bs ≡ Some p → Found n bs p
-found zero n bs p fits is = absurd (none_some p is)
+found zero n bs p fits is = absurd (none-some p is)
 found (suc k) n bs p fits is = found_from k n bs p fits (λ xs h e. found k n xs p h e) (past blank bs) refl is

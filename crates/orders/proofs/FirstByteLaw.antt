@@ -1,6 +1,5 @@
 -- The law of the first byte that opens no word, for a whole line.
 use Rattle.std.proofs.Common.{◌≡◌, ℕ, zero, suc, ◌-◌, Bool, true, false, cond, eqb, ltb, ◌⊎◌, List, [], ◌∷◌, length, get_or, take, drop, Some, None, Ok, Err, Option, Result, sym, refl, ap, ◌∙◌, inl, inr, arith}
-use Rattle.std.proofs.lemmas.Bool.Decides.{nat_tests}
 use Rattle.codes.specs.declared.host.HostCode.{HostCode}
 use Rattle.scan.specs.Runs.{past}
 use Rattle.words.specs.Bytes.{blank, letter}
@@ -17,7 +16,9 @@ use Rattle.orders.specs.declared.order.Order.{Order}
 use Rattle.orders.specs.declared.order.Order.TheVariants.{Clear, Hold, Stop}
 use Rattle.orders.specs.declared.fault.WordFault.{WordFault}
 use Rattle.orders.specs.declared.fault.WordFault.TheVariants.{Byte, Missing, Foreign, NoCode, OutOfRange}
-use Rattle.orders.proofs.Outcomes.{none_some, judged}
+use Rattle.std.proofs.lemmas.Bool.{eqb-true, eqb-false}
+use Rattle.std.proofs.lemmas.Option.{none-some}
+use Rattle.orders.proofs.Outcomes.{judged}
 use Rattle.orders.proofs.Widening.{split}
 use Rattle.orders.proofs.FirstByte.{Found, found}
 
@@ -43,7 +44,7 @@ never_four false false false false g p = refl
 four_err : (A B : Type 0) (e : WordFault) → four {T = A} (Err e) ≡ None → four {T = B} (Err e) ≡ None
 four_err A B (Byte TooLong) h = refl
 four_err A B (Byte Blank) h = refl
-four_err A B (Byte (OpensNone p)) h = absurd (none_some p (sym h))
+four_err A B (Byte (OpensNone p)) h = absurd (none-some p (sym h))
 four_err A B (Missing p) h = refl
 four_err A B (Foreign p) h = refl
 four_err A B (NoCode p) h = refl
@@ -79,17 +80,11 @@ transfer_four R n bs =
 
 -- a choice whose first way is no 4
 passes : (k : Bool) (p : ℕ) (x y : Result Order WordFault) → four x ≡ None → four (cond k x y) ≡ Some p → four y ≡ Some p
-passes true p x y h e = absurd (none_some p (sym h ∙ e))
+passes true p x y h e = absurd (none-some p (sym h ∙ e))
 passes false p x y h e = e
 
 abbrev Where : List ℕ → ℕ → Type 0
 Where bs p = ((get_or bs 0 0 ≡ 33) × (first_bad (length (drop 1 bs)) (length bs) (drop 1 bs) ≡ Some p)) ⊎ ((get_or bs 0 0 ≡ 33 → ⊥) × (first_bad (length bs) (length bs) bs ≡ Some p))
-
-bang : (b : ℕ) → eqb b 33 ≡ true → b ≡ 33
-bang b h = grind (arith, nat_tests)
-
-no_bang : (b : ℕ) → eqb b 33 ≡ false → b ≡ 33 → ⊥
-no_bang b h e = grind (arith, nat_tests)
 
 inverse : (R : ℕ) (bs : List ℕ) (p : ℕ) → four (reading R bs) ≡ Some p → Where bs p
 inverse R bs p e =
@@ -98,8 +93,8 @@ inverse R bs p e =
     (passes (eqb (length (past blank bs)) 0) p (Err (Byte Blank)) _ refl (passes (ltb 80 (length bs)) p (Err (Byte TooLong)) _ refl e))))
     in
     split (eqb (get_or bs 0 0) 33)
-    (λ t. inl (bang (get_or bs 0 0) t, sym (transfer_four R (length bs) (drop 1 bs)) ∙ sym (ap (λ k. four (cond k (of_transfer R (length bs) (drop 1 bs)) (of_words R (length bs) bs))) t) ∙ last))
-    (λ f. inr (no_bang (get_or bs 0 0) f, sym (words_four R (length bs) bs) ∙ sym (ap (λ k. four (cond k (of_transfer R (length bs) (drop 1 bs)) (of_words R (length bs) bs))) f) ∙ last))
+    (λ t. inl (eqb-true (get_or bs 0 0) 33 t, sym (transfer_four R (length bs) (drop 1 bs)) ∙ sym (ap (λ k. four (cond k (of_transfer R (length bs) (drop 1 bs)) (of_words R (length bs) bs))) t) ∙ last))
+    (λ f. inr (eqb-false (get_or bs 0 0) 33 f, sym (words_four R (length bs) bs) ∙ sym (ap (λ k. four (cond k (of_transfer R (length bs) (drop 1 bs)) (of_words R (length bs) bs))) f) ∙ last))
 
 take_first : (m b : ℕ) (bs : List ℕ) → get_or (take m (b ∷ bs)) 0 0 ≡ 33 → b ≡ 33
 take_first zero b bs e = absurd (omega arith)
@@ -121,7 +116,7 @@ in_words R b bs p other f =
     none_so j i q e =
         elim (inverse R (take j (b ∷ bs)) q e) [
           | inl v ↦ other (take_first j b bs v.0)
-          | inr v ↦ none_some q (sym (ap (λ m. first_bad (length (take j (b ∷ bs))) (length (take j (b ∷ bs))) (take m (b ∷ bs))) i ∙ f.before _ _) ∙ v.1)
+          | inr v ↦ none-some q (sym (ap (λ m. first_bad (length (take j (b ∷ bs))) (length (take j (b ∷ bs))) (take m (b ∷ bs))) i ∙ f.before _ _) ∙ v.1)
         ]
 
 behind_bang : (R b : ℕ) (bs : List ℕ) (p : ℕ) → b ≡ 33 → Found (length (b ∷ bs)) bs p → OpensNoneAt R (b ∷ bs) p
@@ -140,12 +135,12 @@ behind_bang R b bs p is f =
     none_so j i q e =
         let cut : four (reading R (b ∷ take f.at bs)) ≡ Some q = sym (ap (λ m. four (reading R (take m (b ∷ bs)))) i) ∙ e in
         elim (inverse R (b ∷ take f.at bs) q cut) [
-          | inl v ↦ none_some q (sym (f.before _ _) ∙ v.1)
+          | inl v ↦ none-some q (sym (f.before _ _) ∙ v.1)
           | inr v ↦ v.0 is
         ]
 
 pub first_byte_law : (R : ℕ) (bs : List ℕ) → FirstByteLaw R bs
-first_byte_law R [] p e = absurd (none_some p (ap four e))
+first_byte_law R [] p e = absurd (none-some p (ap four e))
 first_byte_law R (b ∷ bs) p e =
     elim (inverse R (b ∷ bs) p (ap four e)) [
       | inl v ↦ behind_bang R b bs p v.0 (found (length bs) (length (b ∷ bs)) bs p (omega arith) v.1)

@@ -1,6 +1,8 @@
 -- The line that accepted words are about is named by the first of them, or by none.
 use Rattle.std.proofs.Common.{◌≡◌, ℕ, suc, ◌≤◌, Bool, true, false, cond, not, ◌&&◌, ◌||◌, eqb, leb, ◌⊎◌, List, [], ◌∷◌, length, take, is_some, Some, None, Ok, Err, Option, Result, sym, refl, ap, ◌∙◌, inl, inr, arith}
 use Rattle.std.proofs.lemmas.Bool.Decides.{nat_tests}
+use Rattle.std.proofs.lemmas.Bool.{or_parts, both_ways}
+use Rattle.std.proofs.lemmas.Option.{none-some, same_Some}
 use Rattle.scan.specs.Runs.{past}
 use Rattle.words.specs.Bytes.{blank, letter}
 use Rattle.words.specs.Words.{Spelled, word_of, behind}
@@ -11,7 +13,7 @@ use Rattle.orders.specs.Lines.{named, and_then, heard_on}
 use Rattle.orders.specs.declared.heard.Heard.{Heard}
 use Rattle.orders.specs.declared.fault.WordFault.{WordFault}
 use Rattle.orders.specs.declared.fault.WordFault.TheVariants.{Missing, Foreign, NoCode, OutOfRange}
-use Rattle.orders.proofs.Outcomes.{none_some, same_some, refused, judged}
+use Rattle.orders.proofs.Outcomes.{refused, judged}
 use Rattle.orders.proofs.Widening.{split}
 
 -- an accepted word was neither foreign nor out of range
@@ -31,16 +33,9 @@ module _ (R : ℕ) (line : Bool) where
   then_on (Err x) f g e = absurd (refused x g e)
 
 -- of two facts that one refuses
-both_false : (a b : Bool) → (a || b) ≡ false → (a ≡ false) × (b ≡ false)
-both_false true b e = absurd (let z : ◌≡◌ {A = ℕ} 0 1 = cc in omega arith)
-both_false false b e = (refl, e)
-
 not_both : (a b : Bool) → (a && b) ≡ false → a ≡ true → b ≡ false
 not_both true b e t = e
 not_both false b e t = absurd (let z : ◌≡◌ {A = ℕ} 0 1 = cc in omega arith)
-
-apart : (b : Bool) → b ≡ true → b ≡ false → ⊥
-apart b t f = let z : ◌≡◌ {A = ℕ} 0 1 = cc in omega arith
 
 in_range : (m n : ℕ) → m ≡ n → not (leb 1 m && leb m 400) ≡ false → (1 ≤ n) × (n ≤ 400)
 in_range m n e h = (grind (arith, nat_tests), grind (arith, nat_tests))
@@ -55,19 +50,19 @@ module _ (R : ℕ) (line : Bool) where
       let here : one.0.line ≡ h.line =
       split (is_n w)
       (λ t. elim why [
-        | inl s ↦ absurd (apart (is_some h.line) s (not_both (is_n w) (is_some h.line) (both_false (is_n w && is_some h.line) _ (both_false (repeated h w) _ word.0).0).0 t))
-        | inr n ↦ absurd (apart (is_n w) t (both_false (is_n w) (named ws) n).0)
+        | inl s ↦ absurd (both_ways (is_some h.line) (not_both (is_n w) (is_some h.line) (or_parts (is_n w && is_some h.line) _ (or_parts (repeated h w) _ word.0).0).0 t) s)
+        | inr n ↦ absurd (both_ways (is_n w) (or_parts (is_n w) (named ws) n).0 t)
       ])
       (λ f. sym (ap (λ (k : Heard). k.line) word.2) ∙ ap (λ b. cond b (Some (line_number w)) h.line) f)
       in
-      keeps one.0 g ws (elim why [ inl s ↦ inl (ap is_some here ∙ s) | inr n ↦ inr (both_false (is_n w) (named ws) n).1 ]) one.1.1 ∙ here
+      keeps one.0 g ws (elim why [ inl s ↦ inl (ap is_some here ∙ s) | inr n ↦ inr (or_parts (is_n w) (named ws) n).1 ]) one.1.1 ∙ here
 
 -- a word that is no N, accepted where no line is named yet, stands in a line without N
 unnamed_line : (line : Bool) (h : Heard) (w : Spelled) → h.line ≡ None → is_n w ≡ false → foreign line h w ≡ false → line ≡ false
 unnamed_line line h w none f e =
     let last : (not (is_n w) && (line && not (is_some h.line))) ≡ false =
-    (both_false (is_h w && any_field h.fields) _
-    (both_false (is_l w && (is_some h.line || any_field h.fields)) _ (both_false (is_some h.setting || is_some h.host) _ (both_false (repeated h w) _ e).1).1).1).1
+    (or_parts (is_h w && any_field h.fields) _
+    (or_parts (is_l w && (is_some h.line || any_field h.fields)) _ (or_parts (is_some h.setting || is_some h.host) _ (or_parts (repeated h w) _ e).1).1).1).1
     in
     let free : (line && not (is_some h.line)) ≡ false = not_both (not (is_n w)) (line && not (is_some h.line)) last (ap not f) in
     by line (sym (ap (λ (o : Option ℕ). line && not (is_some o)) none) ∙ free)
@@ -88,22 +83,22 @@ module _ (R : ℕ) (line : Bool) where
       keeps R line all.0 g ws
       (split (is_n w)
       (λ t. inl (sym (ap (λ (k : Heard). is_some k.line) word.2) ∙ ap (λ b. is_some (cond b (Some (line_number w)) nothing.line)) t))
-      (λ o. inr (both_false (is_n w) (named ws) (sym n ∙ unnamed_line line nothing w refl o word.0)).1))
+      (λ o. inr (or_parts (is_n w) (named ws) (sym n ∙ unnamed_line line nothing w refl o word.0)).1))
       all.1.1
       ∙ sym same
 
   -- and it names a line that there is
   pub names_one : (ws : List Spelled) (h : Heard) (n : ℕ) → heard_on R line false nothing (take 1 ws) ≡ Ok h → h.line ≡ Some n → (1 ≤ n) × (n ≤ 400)
-  names_one [] h n e s = absurd (none_some n (ap (λ r. elim r [ Ok x ↦ x.line | Err y ↦ None ]) e ∙ s))
+  names_one [] h n e s = absurd (none-some n (ap (λ r. elim r [ Ok x ↦ x.line | Err y ↦ None ]) e ∙ s))
   names_one (w ∷ ws) h n e s =
       let one = then_on R line (meaning R line false nothing w) (λ k. Ok k) h e in
       let word = heard_word R line nothing one.0 w one.1.0 in
       let same : one.0.line ≡ Some n = ap (λ r. elim r [ Ok x ↦ x.line | Err y ↦ h.line ]) one.1.1 ∙ s in
       let here : cond (is_n w) (Some (line_number w)) None ≡ Some n = ap (λ (k : Heard). k.line) word.2 ∙ same in
       split (is_n w)
-      (λ t. in_range (line_number w) n (same_some (line_number w) n (sym (ap (λ b. cond b (Some (line_number w)) None) t) ∙ here))
-      (not_both (is_n w) (not (leb 1 (line_number w) && leb (line_number w) 400)) (both_false _ _ word.1).0 t))
-      (λ f. absurd (none_some n (sym (ap (λ b. cond b (Some (line_number w)) None) f) ∙ here)))
+      (λ t. in_range (line_number w) n (same_Some (line_number w) n (sym (ap (λ b. cond b (Some (line_number w)) None) t) ∙ here))
+      (not_both (is_n w) (not (leb 1 (line_number w) && leb (line_number w) 400)) (or_parts _ _ word.1).0 t))
+      (λ f. absurd (none-some n (sym (ap (λ b. cond b (Some (line_number w)) None) f) ∙ here)))
 
 -- the first word by itself
 one_of : (a b : Bool) (w : Spelled) (ws : List Spelled) → cond a [] (cond b (w ∷ []) []) ≡ take 1 (cond a [] (cond b (w ∷ ws) []))

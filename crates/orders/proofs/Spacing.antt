@@ -1,5 +1,6 @@
 -- One blank more, word by word.
 use Rattle.std.proofs.Common.{◌≡◌, ℕ, zero, suc, ◌-◌, ◌≤◌, Bool, true, false, cond, eqb, List, [], ◌∷◌, length, get_or, drop, is_some, Some, None, Option, sym, refl, ap, ◌∙◌, arith}
+use Rattle.std.proofs.lemmas.List.{nil_from_length}
 use Rattle.scan.specs.Runs.{past}
 use Rattle.scan.specs.Numbers.{digit}
 use Rattle.words.specs.Bytes.{blank, letter}
@@ -73,10 +74,6 @@ goes_on k n c zs t = rw (some_left c zs, t)
 pub bad_here : (k n c : ℕ) (zs : List ℕ) → letter c ≡ false → bad_from k n (c ∷ zs) ≡ Some (n - length zs)
 bad_here k n c zs f = rw (some_left c zs, f)
 
-pub empty_of : (zs : List ℕ) → length zs ≤ 0 → zs ≡ []
-empty_of [] h = refl
-empty_of (z ∷ zs) h = absurd (omega arith)
-
 tight_left : (zs ws : List ℕ) → Tight zs ws → zs ≡ [] → ws ≡ []
 tight_left zs [] t e = refl
 tight_left [] (w ∷ ws) t e = elim t [ ]
@@ -107,8 +104,8 @@ same_from k l n m (z ∷ zs) (w ∷ ws) on t h g =
 
 pub same_words : (k l n m : ℕ) (xs ys : List ℕ) → Tight (past blank xs) (past blank ys) → length (past blank xs) ≤ k → length (past blank ys) ≤ l
     → bares (listed l m ys) ≡ bares (listed k n xs)
-same_words zero l n m xs ys t h g = ap bares (no_more l m ys (tight_left (past blank xs) (past blank ys) t (empty_of (past blank xs) h)))
-same_words (suc k) zero n m xs ys t h g = sym (ap bares (no_more (suc k) n xs (tight_right (past blank xs) (past blank ys) t (empty_of (past blank ys) g))))
+same_words zero l n m xs ys t h g = ap bares (no_more l m ys (tight_left (past blank xs) (past blank ys) t (nil_from_length (past blank xs) (omega arith))))
+same_words (suc k) zero n m xs ys t h g = sym (ap bares (no_more (suc k) n xs (tight_right (past blank xs) (past blank ys) t (nil_from_length (past blank ys) (omega arith)))))
 same_words (suc k) (suc l) n m xs ys t h g = same_from k l n m (past blank xs) (past blank ys) (same_words k l n m) t h g
 
 same_bad_from : (k l n m : ℕ) (zs ws : List ℕ)
@@ -126,6 +123,6 @@ same_bad_from k l n m (z ∷ zs) (w ∷ ws) on t h g =
 
 pub same_bad : (k l n m : ℕ) (xs ys : List ℕ) → Tight (past blank xs) (past blank ys) → length (past blank xs) ≤ k → length (past blank ys) ≤ l
     → is_some (first_bad l m ys) ≡ is_some (first_bad k n xs)
-same_bad zero l n m xs ys t h g = ap is_some (at_end l m ys (tight_left (past blank xs) (past blank ys) t (empty_of (past blank xs) h)))
-same_bad (suc k) zero n m xs ys t h g = sym (ap is_some (at_end (suc k) n xs (tight_right (past blank xs) (past blank ys) t (empty_of (past blank ys) g))))
+same_bad zero l n m xs ys t h g = ap is_some (at_end l m ys (tight_left (past blank xs) (past blank ys) t (nil_from_length (past blank xs) (omega arith))))
+same_bad (suc k) zero n m xs ys t h g = sym (ap is_some (at_end (suc k) n xs (tight_right (past blank xs) (past blank ys) t (nil_from_length (past blank ys) (omega arith)))))
 same_bad (suc k) (suc l) n m xs ys t h g = same_bad_from k l n m (past blank xs) (past blank ys) (same_bad k l n m) t h g

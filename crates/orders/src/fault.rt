@@ -57,13 +57,12 @@ impl WordFault {
         ensures { result ≡ place_of self }
     {
         match self {
-            WordFault::Byte(ByteFault::TooLong) => 0,
-            WordFault::Byte(ByteFault::Blank) => 0,
-            WordFault::Byte(ByteFault::OpensNone { place }) => place,
-            WordFault::Missing { place } => place,
-            WordFault::Foreign { place } => place,
-            WordFault::NoCode { place } => place,
-            WordFault::OutOfRange { place } => place,
+            WordFault::Byte(ByteFault::TooLong | ByteFault::Blank) => 0,
+            WordFault::Byte(ByteFault::OpensNone { place })
+            | WordFault::Missing { place }
+            | WordFault::Foreign { place }
+            | WordFault::NoCode { place }
+            | WordFault::OutOfRange { place } => place,
         }
     }
 

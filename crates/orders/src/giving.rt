@@ -22,16 +22,10 @@ impl Heard {
                 code,
             };
         }
-        if self.fields.any() {
-            return Order::Store {
-                line: self.line,
-                fields: self.fields,
-            };
-        }
         match self.line {
-            Some(line) => Order::Point { line },
-            None => Order::Store {
-                line: None,
+            Some(line) if !self.fields.any() => Order::Point { line },
+            line => Order::Store {
+                line,
                 fields: self.fields,
             },
         }
@@ -42,9 +36,7 @@ impl Heard {
         ensures transfer { result ≡ transfer self }
         ensures wordless { IfOk result (λ o. wordless o ≡ true) }
     {
-        match self.host {
-            Some(code) => Ok(Order::Transfer { code }),
-            None => Err(WordFault::NoCode { place: BANG }),
-        }
+        let code = self.host.ok_or(WordFault::NoCode { place: BANG })?;
+        Ok(Order::Transfer { code })
     }
 }

@@ -12,4 +12,6 @@ pub mod order;
 pub mod reading;
 pub mod start;
 mod telling;
+#[cfg(test)]
+mod tests;
 mod wrong;

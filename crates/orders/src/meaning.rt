@@ -43,7 +43,9 @@ impl Heard {
     {
         match word {
             Word::N { digits, .. } => self.line = Some(digits.value(Field::Line)),
-            Word::G { digits, .. } => self.fields.code = ProgramCode::coded(digits.value(Field::Code)),
+            Word::G { digits, .. } => self.fields.code = ProgramCode::coded(digits.value(
+                Field::Code,
+            )),
             Word::X { sign, digits, .. } => self.fields.x = Some(number(sign, digits)),
             Word::F { digits, .. } => self.fields.feed = Some(digits.value(Field::Feed)),
             Word::L {

@@ -21,10 +21,11 @@ pub fn is_missing(word: Word<'_>) -> bool
     ensures { result ≡ missing (spelled word.entry) }
 {
     match word {
-        Word::N { digits, .. } => digits.is_empty(),
-        Word::G { digits, .. } => digits.is_empty(),
-        Word::X { digits, .. } => digits.is_empty(),
-        Word::F { digits, .. } => digits.is_empty(),
+        Word::N { digits, .. }
+        | Word::G { digits, .. }
+        | Word::X { digits, .. }
+        | Word::F { digits, .. }
+        | Word::H { digits, .. } => digits.is_empty(),
         Word::L {
             code,
             sign,
@@ -39,7 +40,6 @@ pub fn is_missing(word: Word<'_>) -> bool
             }
             digits.is_empty()
         }
-        Word::H { digits, .. } => digits.is_empty(),
     }
 }
 

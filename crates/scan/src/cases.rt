@@ -8,7 +8,8 @@ use crate::field::Field;
 
 // X1234567890 is 34,567,890: of ten digits the last eight count. N1000 is line 000, which there is not.
 pub fn long_digits() -> u32
-    ensures cases { (value (kept Number (codes "1234567890")) ≡ 34567890) × (value (kept Line (codes "1000")) ≡ 0) }
+    ensures number { value (kept Number (codes "1234567890")) ≡ 34567890 }
+    ensures line { value (kept Line (codes "1000")) ≡ 0 }
     ensures run { result ≡ 34567890 }
 {
     Field::Number.value(b"1234567890")

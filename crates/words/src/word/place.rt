@@ -10,12 +10,12 @@ impl<'a> Word<'a> {
         ensures { result ≡ (spelled self.entry).place }
     {
         match self {
-            Word::N { place, .. } => place,
-            Word::G { place, .. } => place,
-            Word::X { place, .. } => place,
-            Word::F { place, .. } => place,
-            Word::L { place, .. } => place,
-            Word::H { place, .. } => place,
+            Word::N { place, .. }
+            | Word::G { place, .. }
+            | Word::X { place, .. }
+            | Word::F { place, .. }
+            | Word::L { place, .. }
+            | Word::H { place, .. } => place,
         }
     }
 

@@ -1,12 +1,14 @@
-use Rattle.std.proofs.Common.{sym, subst}
-use Rattle.orders.specs.Widths.{Narrow}
+use Rattle.std.proofs.Common.{rules}
 use Rattle.orders.proofs.Blanks.{blank_law}
 use Rattle.orders.proofs.Narrowing.{narrow}
 use Rattle.orders.proofs.FirstByteLaw.{first_byte_law}
 use Rattle.orders.proofs.reading.read.Goals as goal
 
-pub returns : goal.returns
-returns c =
-    let R = c.args.settings.now.resolution in
-    let bs = c.args.line.now in
-    record { order = c.by_kind.ensures; widths = subst Narrow (sym c.by_kind.ensures) (narrow R bs); first = first_byte_law R bs; blanks = blank_law R bs }
+pub returns-clause-widths : goal.returns-clause-widths
+returns-clause-widths c = search (rules, narrow)
+
+pub returns-clause-first : goal.returns-clause-first
+returns-clause-first c = first_byte_law c.args.settings.now.resolution c.args.line.now
+
+pub returns-clause-blanks : goal.returns-clause-blanks
+returns-clause-blanks c = blank_law c.args.settings.now.resolution c.args.line.now
