@@ -97,10 +97,7 @@ pub fn is_unnamed(bang: bool, word: Word<'_>) -> bool
 fn takes(settings: &Settings, parameter: Option<Parameter>, number: i32) -> bool
     ensures { result ≡ takes settings.now.resolution parameter number }
 {
-    let Some(parameter) = parameter else {
-        return false;
-    };
-    settings.takes(parameter, number)
+    parameter.is_some_and(|parameter| settings.takes(parameter, number))
 }
 
 // Whether there is no such program line, or the parameter does not take the number.
@@ -108,10 +105,7 @@ pub fn is_outside(settings: &Settings, word: Word<'_>) -> bool
     ensures { result ≡ outside settings.now.resolution (spelled word.entry) }
 {
     match word {
-        Word::N { digits, .. } => {
-            let line = digits.value(Field::Line);
-            line < 1 || line > LINES
-        }
+        Word::N { digits, .. } => { !(1..=LINES).contains(&digits.value(Field::Line)) }
         Word::L {
             code,
             sign,
