@@ -51,9 +51,15 @@ fn memory_of_another_size(rt: HostRuntime) {
     let mut fewer = [OLD; 399];
     let mut more = [OLD; 401];
     let memory = OrderFault::Memory;
-    assert_eq!(rt; take(&mut none, first, b"N1 X5", &settings, false), Err(memory));
+    assert_eq!(rt;
+        take(&mut none, first, b"N1 X5", &settings, false),
+        Err(memory)
+    );
     assert_eq!(rt; take(&mut fewer, first, b"", &settings, true), Err(memory));
-    assert_eq!(rt; take(&mut more, first, b"N1 X5", &settings, false), Err(memory));
+    assert_eq!(rt;
+        take(&mut more, first, b"N1 X5", &settings, false),
+        Err(memory)
+    );
     assert_eq!(rt; clear(&mut more, first), Err(memory));
     assert_eq!(rt; fewer, [OLD; 399]);
     assert_eq!(rt; more, [OLD; 401]);
