@@ -48,7 +48,9 @@ impl Heard {
     {
         match word {
             Word::N { digits, .. } => self.line = Some(Field::Line.value(digits)),
-            Word::G { digits, .. } => self.fields.code = ProgramCode::coded(Field::Code.value(digits)),
+            Word::G { digits, .. } => self.fields.code = ProgramCode::coded(Field::Code.value(
+                digits,
+            )),
             Word::X { sign, digits, .. } => self.fields.x = Some(number(sign, digits)),
             Word::F { digits, .. } => self.fields.feed = Some(Field::Feed.value(digits)),
             Word::L {
