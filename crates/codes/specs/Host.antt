@@ -54,12 +54,12 @@ transfers Absolute = false
 transfers WindingsOn = false
 transfers WindingsOff = false
 
-unfoldable pub codes : List HostCode
-codes = ALL
+unfoldable pub host_codes : List HostCode
+host_codes = ALL
 
 -- each is found by its number
-pub found : (c : HostCode) → coded_among code codes (code c) ≡ Some c
-unfolding codes
+pub found : (c : HostCode) → coded_among code host_codes (code c) ≡ Some c
+unfolding host_codes
 found Start = refl
 found StepMode = refl
 found JogMode = refl

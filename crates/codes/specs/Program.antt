@@ -25,12 +25,12 @@ code ZeroCounter = 77
 code Absolute = 90
 code Incremental = 91
 
-unfoldable pub codes : List ProgramCode
-codes = ALL
+unfoldable pub program_codes : List ProgramCode
+program_codes = ALL
 
 -- each is found by its number
-pub found : (c : ProgramCode) → coded_among code codes (code c) ≡ Some c
-unfolding codes
+pub found : (c : ProgramCode) → coded_among code program_codes (code c) ≡ Some c
+unfolding program_codes
 found Dwell = refl
 found Call = refl
 found Jump = refl

@@ -1,5 +1,6 @@
 // Things that go by a number of their own, and the one that a number names.
-ghost use Rattle.std.specs.Prelude.{◌≡◌, ◌≢◌, ℕ, List, Some, MatchOption};
+ghost use Rattle.std.specs.Prelude.{◌≡◌, ◌≢◌, ◌++◌, ℕ, List, Some, MatchOption, codes};
+ghost use Rattle.std.specs.Fmt.{decimal};
 ghost use Rattle.codes.specs.Coded.{coded_among};
 
 use std::error::Error;
@@ -37,6 +38,8 @@ pub trait Coded: Copy + 'static {
 pub struct UnknownCode(pub u32);
 
 impl fmt::Display for UnknownCode {
+    ghost output = { λ unknown. Some (codes "nothing has the code " ++ decimal unknown.0) };
+
     fn fmt<W: fmt::Write>(&self, f: &mut fmt::Formatter<W>) -> fmt::Result {
         write!(f, "nothing has the code {}", self.0)
     }

@@ -1,7 +1,7 @@
 // What a host line orders: H and two digits.
 ghost use Rattle.std.specs.Prelude.{◌≡◌};
 ghost use Rattle.codes.specs.Coded.{Names};
-ghost use Rattle.codes.specs.Host.{code, codes, found, transfers};
+ghost use Rattle.codes.specs.Host.{code, host_codes, found, transfers};
 
 use crate::coded::{Coded, UnknownCode};
 
@@ -59,11 +59,11 @@ const ALL: [HostCode; 22] = [
 impl Coded for HostCode {
     ghost code = { code };
 
-    ghost all = { codes };
+    ghost all = { host_codes };
 
     ghost found = { found };
 
-    #[tactic(auto, unfolding(crate::specs::Host::codes))]
+    #[tactic(auto, unfolding(crate::specs::Host::host_codes))]
     fn all() -> &'static [HostCode] {
         &ALL
     }

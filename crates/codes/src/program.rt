@@ -1,6 +1,6 @@
 // What a line of a program does: G and two digits.
 ghost use Rattle.codes.specs.Coded.{Names};
-ghost use Rattle.codes.specs.Program.{code, codes, found};
+ghost use Rattle.codes.specs.Program.{code, program_codes, found};
 
 use crate::coded::{Coded, UnknownCode};
 
@@ -50,11 +50,11 @@ const ALL: [ProgramCode; 18] = [
 impl Coded for ProgramCode {
     ghost code = { code };
 
-    ghost all = { codes };
+    ghost all = { program_codes };
 
     ghost found = { found };
 
-    #[tactic(auto, unfolding(crate::specs::Program::codes))]
+    #[tactic(auto, unfolding(crate::specs::Program::program_codes))]
     fn all() -> &'static [ProgramCode] {
         &ALL
     }

@@ -9,10 +9,10 @@ use Rattle.codes.specs.declared.host.HostCode.{HostCode}
 use Rattle.settings.specs.declared.parameter.Parameter.{Parameter}
 
 abbrev pub program_coded : ℕ → Option ProgramCode
-program_coded n = coded_among program.code program.codes n
+program_coded n = coded_among program.code program.program_codes n
 
 abbrev pub host_coded : ℕ → Option HostCode
-host_coded n = coded_among host.code host.codes n
+host_coded n = coded_among host.code host.host_codes n
 
 abbrev pub parameter_coded : ℕ → Option Parameter
-parameter_coded n = coded_among parameters.code parameters.parameters n
+parameter_coded n = coded_among parameters.code parameters.all_parameters n

@@ -53,12 +53,12 @@ fits R p v = int_le (row R p).least v && int_le v (row R p).most
 abbrev pub same : Parameter → Parameter → Bool
 same p q = code p == code q
 
-unfoldable pub parameters : List Parameter
-parameters = ALL
+unfoldable pub all_parameters : List Parameter
+all_parameters = ALL
 
 -- each is found by its number
-pub found : (p : Parameter) → coded_among code parameters (code p) ≡ Some p
-unfolding parameters
+pub found : (p : Parameter) → coded_among code all_parameters (code p) ≡ Some p
+unfolding all_parameters
 found RunFormat = refl
 found HomeDirection = refl
 found JogSpeed = refl

@@ -1,7 +1,7 @@
 // The codes of the parameters, as in L06.
 ghost use Rattle.std.specs.Prelude.{◌≡◌};
 ghost use Rattle.codes.specs.Coded.{Names};
-ghost use Rattle.settings.specs.Parameters.{code, parameters, found, signed};
+ghost use Rattle.settings.specs.Parameters.{code, all_parameters, found, signed};
 
 use crate::parameter::Parameter;
 use codes::coded::{Coded, UnknownCode};
@@ -29,11 +29,11 @@ const ALL: [Parameter; 17] = [
 impl Coded for Parameter {
     ghost code = { code };
 
-    ghost all = { parameters };
+    ghost all = { all_parameters };
 
     ghost found = { found };
 
-    #[tactic(auto, unfolding(crate::specs::Parameters::parameters))]
+    #[tactic(auto, unfolding(crate::specs::Parameters::all_parameters))]
     fn all() -> &'static [Parameter] {
         &ALL
     }
