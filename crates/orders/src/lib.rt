@@ -12,6 +12,4 @@ pub mod order;
 pub mod reading;
 pub mod start;
 mod telling;
-#[cfg(test)]
-mod tests;
 mod wrong;

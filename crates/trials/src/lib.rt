@@ -16,4 +16,6 @@ mod parameters;
 #[cfg(test)]
 mod replies;
 #[cfg(test)]
+mod spoken;
+#[cfg(test)]
 mod switches;

@@ -1,9 +1,9 @@
 // Orders and refusals in words, as docs/bench.md gives them.
-use crate::fault::WordFault;
-use crate::heard::{Fields, Setting};
-use crate::order::Order;
 use codes::host::HostCode;
 use codes::program::ProgramCode;
+use orders::fault::WordFault;
+use orders::heard::{Fields, Setting};
+use orders::order::Order;
 use settings::parameter::Parameter;
 use std::test::Fail;
 use words::word::ByteFault;
