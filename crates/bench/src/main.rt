@@ -82,6 +82,7 @@ fn begin<I: Read + Drop, O: Write>(
     out: &mut O,
 ) -> io::Result<()> {
     let mut first = source.next();
+    // Counted, as in `Rows::on`, since a loop with no bound wants a handle that waits, and none is allowed.
     for _ in 0..u64::MAX {
         match first {
             Ok(Some(Row::Remark)) => first = source.next(),

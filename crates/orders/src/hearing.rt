@@ -1,4 +1,5 @@
-// The words of a line, heard one after the other.
+// The words of a line, heard one after the other. The settings are handed to each step: held here they would be borrowed as long as the line,
+// and each clause on a step would have to say that they stay.
 use crate::heard::Heard;
 use words::reader::Reader;
 

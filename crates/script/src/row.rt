@@ -68,7 +68,8 @@ pub fn read(row: &[u8]) -> Result<Row, Mistake> {
     if let [b'-', b'-', ..] = name {
         return Ok(Row::Remark);
     }
-    let meant = match text(name) {
+    let name = text(name).ok_or(Mistake::Unknown)?;
+    let meant = match name {
         "axis" => Row::Axis(chosen(&mut words)?),
         "windings" => Row::Windings {
             on: switch(&mut words)?,
@@ -116,7 +117,7 @@ fn pulse(words: &mut Words) -> Result<Row, Mistake> {
 
 fn ramp(words: &mut Words) -> Result<Row, Mistake> {
     let first = words.next();
-    let pace = match first.map(text) {
+    let pace = match first.and_then(text) {
         Some("low") => Pace::Low {
             low: amount(words)?,
         },
@@ -203,10 +204,10 @@ fn fenced_twice(outer: Allowance, words: &mut Words) -> Result<Pile, Mistake> {
 }
 
 fn next_name<'a>(words: &mut Words<'a>) -> Option<&'a str> {
-    words.next().map(text)
+    words.next().and_then(text)
 }
 
 // A word that is no text is no name either.
-fn text(word: &[u8]) -> &str {
-    std::str::from_utf8(word).unwrap_or("?")
+fn text(word: &[u8]) -> Option<&str> {
+    std::str::from_utf8(word).ok()
 }
