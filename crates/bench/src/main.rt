@@ -136,6 +136,7 @@ impl<I: Read + Drop, O: Write> Rows<'_, I, O> {
         } = self;
         let mut session = Session::new(heap, axis)?;
         let mut next = first;
+        // Counted, as in `begin`.
         for _ in 0..u64::MAX {
             let done = match next {
                 Ok(None) => break,

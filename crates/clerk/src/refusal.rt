@@ -33,7 +33,7 @@ impl Refusal {
         }
     }
 
-    // The place of the byte or word, 0 where there is none.
+    // The place of the byte or word; 0, as on the card, where there is none.
     pub fn place(self) -> usize
         ensures { result ≡ place_of self }
     {

@@ -52,7 +52,7 @@ impl WordFault {
         }
     }
 
-    // The place of the byte or word, 0 where the line is wrong as a whole.
+    // The place of the byte or word; 0, as on the card, where the line is wrong as a whole.
     pub fn place(self) -> usize
         ensures { result ≡ place_of self }
     {

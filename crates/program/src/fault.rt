@@ -34,7 +34,7 @@ impl OrderFault {
         }
     }
 
-    // The place of the byte or word, 0 where there is none.
+    // The place of the byte or word; 0, as on the card, where there is none.
     pub fn place(self) -> usize
         ensures { result ≡ place_of self }
     {
