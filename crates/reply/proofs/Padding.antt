@@ -2,10 +2,10 @@
 use Rattle.std.proofs.Common.{◌≡◌, ℕ, zero, suc, ◌+◌, ◌-◌, ◌*◌, ◌/◌, ◌%◌, ◌^◌, ◌<◌, true, ◌&&◌, List, [], ◌∷◌, ◌++◌, sym, refl, ap, ◌∙◌, mod-eq_of_lt, mul_assoc, mul_comm, add-mul, pow-suc, arith}
 use lib.Arith.{mod-mul}
 use Rattle.std.proofs.Math.Nat.{div-one, div-div-eq-div-mul}
+use Rattle.std.proofs.lemmas.Bool.{and_parts}
 use Rattle.std.proofs.lemmas.Bool.Decides.{nat_tests}
 use Rattle.scan.specs.Numbers.{digit, digits, read_on, value}
 use Rattle.scan.specs.Runs.{span, past}
-use Rattle.scan.proofs.Few.{first, second}
 use Rattle.orders.proofs.Widening.{past_on, span_on}
 use Rattle.reply.specs.Texts.{padded, digit_of}
 
@@ -39,19 +39,19 @@ padded_value k m h = on_padded k 0 m ∙ (let e : m % 10 ^ k ≡ m = mod-eq_of_l
 pub span_blank : (ds rest : List ℕ) → digits ds ≡ true → span digit (ds ++ 32 ∷ rest) ≡ ds
 span_blank [] rest h = refl
 span_blank (d ∷ ds) rest h =
-    span_on digit d (ds ++ 32 ∷ rest) (first (digit d) (digits ds) h) ∙ ap (λ bs. d ∷ bs) (span_blank ds rest (second (digit d) (digits ds) h))
+    span_on digit d (ds ++ 32 ∷ rest) (and_parts (digit d) (digits ds) h).0 ∙ ap (λ bs. d ∷ bs) (span_blank ds rest (and_parts (digit d) (digits ds) h).1)
 
 pub past_digits : (ds rest : List ℕ) → digits ds ≡ true → past digit (ds ++ 32 ∷ rest) ≡ 32 ∷ rest
 past_digits [] rest h = refl
-past_digits (d ∷ ds) rest h = past_on digit d (ds ++ 32 ∷ rest) (first (digit d) (digits ds) h) ∙ past_digits ds rest (second (digit d) (digits ds) h)
+past_digits (d ∷ ds) rest h = past_on digit d (ds ++ 32 ∷ rest) (and_parts (digit d) (digits ds) h).0 ∙ past_digits ds rest (and_parts (digit d) (digits ds) h).1
 
 pub span_end : (ds : List ℕ) → digits ds ≡ true → span digit ds ≡ ds
 span_end [] h = refl
-span_end (d ∷ ds) h = span_on digit d ds (first (digit d) (digits ds) h) ∙ ap (λ bs. d ∷ bs) (span_end ds (second (digit d) (digits ds) h))
+span_end (d ∷ ds) h = span_on digit d ds (and_parts (digit d) (digits ds) h).0 ∙ ap (λ bs. d ∷ bs) (span_end ds (and_parts (digit d) (digits ds) h).1)
 
 pub past_end : (ds : List ℕ) → digits ds ≡ true → past digit ds ≡ []
 past_end [] h = refl
-past_end (d ∷ ds) h = past_on digit d ds (first (digit d) (digits ds) h) ∙ past_end ds (second (digit d) (digits ds) h)
+past_end (d ∷ ds) h = past_on digit d ds (and_parts (digit d) (digits ds) h).0 ∙ past_end ds (and_parts (digit d) (digits ds) h).1
 
 -- the last digit behind those of a tenth
 pub padded_last : (k m : ℕ) → padded k (m / 10) ++ (48 + m % 10) ∷ [] ≡ padded (suc k) m

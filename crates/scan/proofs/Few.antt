@@ -1,19 +1,12 @@
 -- Digits of a field are worth less than ten to the field's width.
 use Rattle.std.proofs.Common.{◌≡◌, ℕ, zero, suc, ◌+◌, ◌-◌, ◌*◌, ◌^◌, ◌<◌, ◌≤◌, Bool, true, false, cond, ◌&&◌, List, [], ◌∷◌, length, take, drop, refl, ap, ◌∙◌, pow-suc, arith, length-drop}
 use native.Mathlib.Nat.{pow-le-pow_right}
+use Rattle.std.proofs.lemmas.Bool.{and_parts}
 use Rattle.std.proofs.lemmas.Bool.Decides.{nat_tests}
 use Rattle.scan.specs.Numbers.{digit, digits, read_on, value}
 use Rattle.scan.specs.Runs.{run, span}
 use Rattle.scan.specs.Fields.{width, kept}
 use Rattle.scan.specs.declared.field.Field.{Field}
-
-pub first : (a b : Bool) → (a && b) ≡ true → a ≡ true
-first true b h = refl
-first false b h = h
-
-pub second : (a b : Bool) → (a && b) ≡ true → b ≡ true
-second true b h = h
-second false b h = let z : ◌≡◌ {A = ℕ} 0 1 = cc in let y : ⊥ = omega arith in elim y [ ]
 
 at_most : (b : ℕ) → digit b ≡ true → b ≤ 57
 at_most b h = grind (arith, nat_tests)
@@ -21,15 +14,15 @@ at_most b h = grind (arith, nat_tests)
 below : (n i : ℕ) (ds : List ℕ) → n < 10 ^ i → digits ds ≡ true → read_on n ds < 10 ^ (i + length ds)
 below n i [] h all = let e : i + 0 ≡ i = omega arith in rw e h
 below n i (b ∷ ds) h all =
-    let most = at_most b (first (digit b) (digits ds) all) in
+    let most = at_most b (and_parts (digit b) (digits ds) all).0 in
     let next : n * 10 + (b - 48) < 10 ^ suc i = omega (arith, pow-suc 10 i) in
     let e : i + suc (length ds) ≡ suc i + length ds = omega arith in
-    rw e (below (n * 10 + (b - 48)) (suc i) ds next (second (digit b) (digits ds) all))
+    rw e (below (n * 10 + (b - 48)) (suc i) ds next (and_parts (digit b) (digits ds) all).1)
 
 dropped : (k : ℕ) (ds : List ℕ) → digits ds ≡ true → digits (drop k ds) ≡ true
 dropped zero ds all = all
 dropped (suc k) [] all = refl
-dropped (suc k) (b ∷ ds) all = dropped k ds (second (digit b) (digits ds) all)
+dropped (suc k) (b ∷ ds) all = dropped k ds (and_parts (digit b) (digits ds) all).1
 
 pub few : (f : Field) (ds : List ℕ) → digits ds ≡ true → value (kept f ds) < 10 ^ width f
 few f ds all =
