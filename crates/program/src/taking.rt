@@ -1,5 +1,5 @@
 // Takes a host line, over the program memory.
-ghost use Rattle.std.specs.Prelude.{◌≡◌, if◌then◌else◌, Ok, Err, MatchResult};
+ghost use Rattle.std.specs.Prelude.{◌≡◌, if◌then◌else◌, IfOk, Ok, Err, MatchResult};
 ghost use Rattle.program.specs.Memories.{taken, stored, line_of, addressed};
 
 use crate::fault::OrderFault;
@@ -33,7 +33,8 @@ pub fn take(
     settings: &Settings,
     busy: bool,
 ) -> Result<Taken, OrderFault>
-    ensures order { MatchResult result (λ t. (taken settings.now.resolution busy lines.old line.now ≡ Ok t.order) × (t.line.number ≡ line_of t.order pointer.number)) (λ e. taken settings.now.resolution busy lines.old line.now ≡ Err e) }
+    ensures order { MatchResult result (λ t. taken settings.now.resolution busy lines.old line.now ≡ Ok t.order) (λ e. taken settings.now.resolution busy lines.old line.now ≡ Err e) }
+    ensures line { IfOk result (λ t. t.line.number ≡ line_of t.order pointer.number) }
     ensures lines { lines.new ≡ stored (taken settings.now.resolution busy lines.old line.now) pointer.number lines.old }
 {
     if lines.len() != LINES {

@@ -1,5 +1,5 @@
 // Making slips and settling them.
-ghost use Rattle.std.specs.Prelude.{◌≡◌, ◌<◌, ◌≤◌, true, false, ◌++◌, length, drop, MatchResult};
+ghost use Rattle.std.specs.Prelude.{◌≡◌, ◌↔◌, ◌≤◌, true, false, ◌++◌, length, drop, IsOk, IfOk, OnErr};
 ghost use Rattle.reply.specs.Slips.{owed, refused};
 
 use super::Slip;
@@ -44,7 +44,10 @@ impl Slip {
         requires { self.old.settled ≡ false }
         ensures settled { self.new.settled ≡ true }
         ensures outcome { self.new.outcome ≡ self.old.outcome }
-        ensures written { MatchResult result (λ n. (64 ≤ length out.old) × (n ≡ length (owed self.old.outcome)) × (out.new ≡ owed self.old.outcome ++ drop n out.old)) (λ _. (length out.old < 64) × (out.new ≡ out.old)) }
+        ensures room { IsOk result ↔ (64 ≤ length out.old) }
+        ensures count { IfOk result (λ n. n ≡ length (owed self.old.outcome)) }
+        ensures written { IfOk result (λ n. out.new ≡ owed self.old.outcome ++ drop n out.old) }
+        ensures short { OnErr result (out.new ≡ out.old) }
     {
         self.settled = true;
         if out.len() < ROOM {

@@ -21,7 +21,7 @@ returns-in-Order c =
     let is : Opened R bs (Ok (Whole o)) = subst (λ (s : Start). Opened R bs (Ok s)) c.in-Order.is c.in_ok-order.ensures in
     let once = at_once c.args.busy p lines o is.1 in
     let whole = in_full R c.args.busy lines bs c.if-lines-ne-LINES.false ∙ ap (judged c.args.busy) is.0 ∙ once.passes in
-    record { order = (whole, once.line); lines = once.same ∙ ap (λ (r : Result Order OrderFault). stored r p lines) (sym whole) }
+    record { order = whole; line = once.line; lines = once.same ∙ ap (λ (r : Result Order OrderFault). stored r p lines) (sym whole) }
 
 pub returns-in_ok-order-in-Words : goal.returns-in_ok-order-in-Words
 returns-in_ok-order-in-Words c =
@@ -38,4 +38,4 @@ returns-in_ok-order-in-Words c =
     let all = by_words R c.args.busy lines bs c.if-lines-ne-LINES.false n rest o c.target_of-named.result.number c.args.pointer.number read
     c.target_of-named.ensures (sym c.in_ok-order-in-Words.ensures.order)
     in
-    record { order = (all.0, c.line_about.ensures ∙ all.1); lines = c.in_ok-order-in-Words.ensures.lines ∙ all.2 }
+    record { order = all.0; line = c.line_about.ensures ∙ all.1; lines = c.in_ok-order-in-Words.ensures.lines ∙ all.2 }
