@@ -33,7 +33,7 @@ impl Desk {
     }
 
     // None for a line that cannot be taken yet.
-    pub fn line(&mut self, lines: &mut [Fields], line: &[u8]) -> Option<Slip>
+    pub fn line(&mut self, lines: &mut [Fields], line: &[u8]) -> Option<Slip<OrderFault>>
         ensures { IfSome result (λ s. s.settled ≡ false) }
     {
         self.perform(lines, line).transpose().map(Slip::new)

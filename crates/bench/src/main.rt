@@ -60,11 +60,11 @@ fn main(rt: HostRuntime) -> anyhow::Result<()> {
 }
 
 fn run(rt: &HostRuntime) -> anyhow::Result<()> {
-    let words: Vec<String> = env::args(rt)?.skip(1).collect(rt.alloc())?;
-    if words.iter().any(|word| word.as_str() != "--help") {
-        return Err(anyhow!("no such argument: there is --help"));
-    }
-    if !words.is_empty() {
+    let mut words = env::args(rt)?.skip(1);
+    if let Some(first) = words.next() {
+        if first.as_str() != "--help" || words.any(|word| word.as_str() != "--help") {
+            return Err(anyhow!("no such argument: there is --help"));
+        }
         println!(rt; "{HELP}")?;
         return Ok(());
     }

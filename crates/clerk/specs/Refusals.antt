@@ -1,13 +1,14 @@
 -- The number and the place of each refusal that a host hears.
 use Rattle.std.specs.Prelude.{ℕ}
 use Rattle.program.specs.Faults as program
+use Rattle.program.specs.declared.fault.OrderFault.{OrderFault}
 use Rattle.clerk.specs.declared.refusal.Refusal.{Refusal}
-use Rattle.clerk.specs.declared.refusal.Refusal.TheVariants.{Order, NoRoom}
+use Rattle.clerk.specs.declared.refusal.Refusal.TheVariants.{Line, NoRoom}
 
-abbrev pub number_of : Refusal → ℕ
-number_of (Order f) = program.number_of f
+abbrev pub number_of : Refusal OrderFault → ℕ
+number_of (Line f) = program.number_of f
 number_of NoRoom = 2
 
-abbrev pub place_of : Refusal → ℕ
-place_of (Order f) = program.place_of f
+abbrev pub place_of : Refusal OrderFault → ℕ
+place_of (Line f) = program.place_of f
 place_of NoRoom = 0

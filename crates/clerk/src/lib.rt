@@ -10,7 +10,7 @@ use reply::slip::Slip;
 pub mod refusal;
 
 // How many bytes the answer has at the front of its memory, 0 for silence. A refused line tells its own refusal, whatever the memory.
-pub fn settle(mut slip: Slip, out: &mut [u8]) -> Result<usize, Refusal>
+pub fn settle<F: Copy>(mut slip: Slip<F>, out: &mut [u8]) -> Result<usize, Refusal<F>>
     requires { slip.settled ≡ false }
     ensures told { result ≡ told (length out.old) slip.outcome }
     ensures written { out.new ≡ written slip.outcome out.old }
@@ -18,7 +18,7 @@ pub fn settle(mut slip: Slip, out: &mut [u8]) -> Result<usize, Refusal>
     let refusal = slip.refusal();
     let settled = slip.settle(out);
     match refusal {
-        Some(fault) => Err(Refusal::Order(fault)),
+        Some(fault) => Err(Refusal::Line(fault)),
         None => Ok(settled?),
     }
 }

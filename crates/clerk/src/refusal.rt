@@ -8,27 +8,28 @@ use reply::slip::settling::NoRoom;
 use std::fmt;
 
 #[derive(Clone, Copy, PartialEq, Eq, Debug)]
-pub enum Refusal {
-    Order(OrderFault),
+pub enum Refusal<F> {
+    // What the line was refused for.
+    Line(F),
     // The line was accepted, and there is too little memory for its answer.
     NoRoom,
 }
 
-impl From<NoRoom> for Refusal {
+impl<F> From<NoRoom> for Refusal<F> {
     ghost from_gives = { λ _ r. r ≡ fault.NoRoom };
 
-    fn from(_short: NoRoom) -> Refusal {
+    fn from(_short: NoRoom) -> Refusal<F> {
         Refusal::NoRoom
     }
 }
 
-impl Refusal {
+impl Refusal<OrderFault> {
     // Its number on the refusal card.
     pub fn number(self) -> u8
         ensures { result ≡ number_of self }
     {
         match self {
-            Refusal::Order(fault) => fault.number(),
+            Refusal::Line(fault) => fault.number(),
             Refusal::NoRoom => NoRoom.number(),
         }
     }
@@ -38,13 +39,13 @@ impl Refusal {
         ensures { result ≡ place_of self }
     {
         match self {
-            Refusal::Order(fault) => fault.place(),
+            Refusal::Line(fault) => fault.place(),
             Refusal::NoRoom => 0,
         }
     }
 }
 
-impl fmt::Display for Refusal {
+impl fmt::Display for Refusal<OrderFault> {
     fn fmt<W: fmt::Write>(&self, f: &mut fmt::Formatter<W>) -> fmt::Result {
         write!(f, "refused {} at {}", self.number(), self.place())
     }

@@ -2,18 +2,17 @@
 ghost use Rattle.std.specs.Prelude.{◌≡◌, true};
 
 use crate::answer::Answer;
-use program::fault::OrderFault;
 
 pub mod settling;
 
 // It may be let go only once it is settled: a flag that the check reads, since a slip that is not may neither be dropped nor settled twice.
-pub struct Slip {
+pub struct Slip<F: Copy> {
     // Of a refused line, why.
-    outcome: Result<Answer, OrderFault>,
+    outcome: Result<Answer, F>,
     settled: bool,
 }
 
-impl Drop for Slip {
+impl<F: Copy> Drop for Slip<F> {
     fn drop(self)
         requires { self.settled ≡ true }
     {

@@ -121,7 +121,7 @@ fn piles_turn(rt: HostRuntime) {
     assert_eq!(rt; out_and_back(&mut phase, CCW, 2_000), 20);
 }
 
-// No contract can name a layer's constant: here each is compared with what the contracts say.
+// No contract names a layer's constant: here each is compared with what the contracts say.
 #[test]
 fn resolutions_pass_through(rt: HostRuntime) {
     assert_eq!(rt; Standard::R, 10);

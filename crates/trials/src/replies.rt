@@ -1,4 +1,6 @@
 // The formats of the answers, worked by hand.
+ghost use Rattle.std.specs.Prelude.{◌≡◌, false};
+
 use clerk::refusal::Refusal;
 use clerk::settle;
 use codes::program::ProgramCode;
@@ -101,9 +103,15 @@ const FORMATS: [(Answer, &[u8]); 13] = [
     ),
 ];
 
+fn accepted(answer: Answer) -> Slip<OrderFault>
+    ensures { result.settled ≡ false }
+{
+    Slip::new(Ok(answer))
+}
+
 fn sent(rt: &impl Abort, answer: Answer, want: &[u8]) {
     let mut memory = [b'?'; 64];
-    assert_eq!(rt; settle(Slip::new(Ok(answer)), &mut memory), Ok(want.len()));
+    assert_eq!(rt; settle(accepted(answer), &mut memory), Ok(want.len()));
     let (text, rest) = memory.split_at(want.len());
     assert_eq!(rt; text, want);
     assert!(rt; rest.iter().all(|byte| *byte == b'?'));
@@ -151,10 +159,11 @@ fn parameters_sent(rt: HostRuntime) -> Result<(), Fail> {
 #[test]
 fn too_little_room(rt: HostRuntime) {
     let mut memory = [b'?'; 63];
-    let slip = Slip::new(Ok(Answer::Pointer { number: 1 }));
-    assert_eq!(rt; settle(slip, &mut memory), Err(Refusal::NoRoom));
-    assert_eq!(rt; Refusal::NoRoom.number(), 2);
-    assert_eq!(rt; Refusal::NoRoom.place(), 0);
+    let slip = accepted(Answer::Pointer { number: 1 });
+    let short: Refusal<OrderFault> = Refusal::NoRoom;
+    assert_eq!(rt; settle(slip, &mut memory), Err(short));
+    assert_eq!(rt; short.number(), 2);
+    assert_eq!(rt; short.place(), 0);
     assert!(rt; memory.iter().all(|byte| *byte == b'?'));
 }
 
@@ -164,7 +173,7 @@ fn refused_line(rt: HostRuntime) {
     let mut memory = [b'?'; 64];
     let slip = Slip::new(Err(OrderFault::Busy));
     let told = settle(slip, &mut memory);
-    assert_eq!(rt; told, Err(Refusal::Order(OrderFault::Busy)));
-    assert_eq!(rt; Refusal::Order(OrderFault::Busy).number(), 9);
+    assert_eq!(rt; told, Err(Refusal::Line(OrderFault::Busy)));
+    assert_eq!(rt; Refusal::Line(OrderFault::Busy).number(), 9);
     assert!(rt; memory.iter().all(|byte| *byte == b'?'));
 }

@@ -10,9 +10,9 @@ use crate::word::{ByteFault, Word};
 // What is left of a line.
 #[derive(Clone, Copy, PartialEq, Eq, Debug)]
 pub struct Reader<'a> {
-    rest: &'a [u8],
+    pub rest: &'a [u8],
     // Of the whole line, so that places count from its first byte.
-    length: usize,
+    pub length: usize,
 }
 
 impl<'a> Reader<'a> {

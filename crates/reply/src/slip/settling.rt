@@ -5,7 +5,6 @@ ghost use Rattle.reply.specs.Slips.{owed, refused};
 use super::Slip;
 use crate::answer::Answer;
 use crate::writing::write;
-use program::fault::OrderFault;
 
 // The memory for an answer is less than this; its number on the card is 2.
 const ROOM: usize = 64;
@@ -21,8 +20,8 @@ impl NoRoom {
     }
 }
 
-impl Slip {
-    pub fn new(outcome: Result<Answer, OrderFault>) -> Slip
+impl<F: Copy> Slip<F> {
+    pub fn new(outcome: Result<Answer, F>) -> Slip<F>
         ensures outcome { result.outcome ≡ outcome }
         ensures open { result.settled ≡ false }
     {
@@ -33,7 +32,7 @@ impl Slip {
     }
 
     // Why the line was refused; none where it was accepted.
-    pub fn refusal(&self) -> Option<OrderFault>
+    pub fn refusal(&self) -> Option<F>
         ensures { result ≡ refused self.now.outcome }
     {
         self.outcome.err()
