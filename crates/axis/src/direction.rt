@@ -2,10 +2,11 @@
 ghost use Rattle.std.specs.Prelude.{◌≡◌, pos, negsuc, ◌≤ℤ◌};
 ghost use Rattle.axis.specs.Steps.{step, opposite};
 
+// Each by what its pulse adds to the place.
 #[derive(Clone, Copy, PartialEq, Eq, Debug)]
 pub enum Direction {
-    Clockwise,
-    Counterclockwise,
+    Clockwise = 1,
+    Counterclockwise = -1,
 }
 
 impl Direction {
@@ -15,10 +16,7 @@ impl Direction {
         ensures least { negsuc 0 ≤ℤ result }
         ensures most { result ≤ℤ pos 1 }
     {
-        match self {
-            Direction::Clockwise => 1,
-            Direction::Counterclockwise => -1,
-        }
+        self as i32
     }
 
     pub fn reversed(self) -> Direction

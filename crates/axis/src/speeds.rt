@@ -31,10 +31,11 @@ pub fn starting_speed<A: Axis>() -> u32
     1_000 * A::resolution()
 }
 
+// In pulses a second, a second: the same number.
 pub fn starting_acceleration<A: Axis>() -> u32
     ensures { result ≡ acceleration_start A.Axis.res }
 {
-    A::resolution() * 1_000
+    starting_speed::<A>()
 }
 
 pub fn starting_low_speed<A: Axis>() -> u32
