@@ -1,6 +1,9 @@
 // How far an axis may go.
 ghost use Rattle.std.specs.Prelude.{◌≡◌};
-ghost use Rattle.layers.specs.Allowances.{allows};
+ghost use Rattle.layers.specs.Allowances.{allows, capped};
+
+// The widest each way, in pulses.
+const WIDEST: u32 = 1_000_000_000;
 
 // Pulses down and up from where it stands.
 #[derive(Clone, Copy, PartialEq, Eq, Debug)]
@@ -10,6 +13,16 @@ pub struct Allowance {
 }
 
 impl Allowance {
+    // Past the widest it counts as the widest.
+    pub fn capped(self) -> Allowance
+        ensures { result ≡ capped self }
+    {
+        Allowance {
+            down: self.down.min(WIDEST),
+            up: self.up.min(WIDEST),
+        }
+    }
+
     // Whether an axis may stand so many pulses from there, clockwise less counterclockwise.
     pub fn allows(self, net: i32) -> bool
         ensures { result ≡ allows self net }

@@ -1,5 +1,6 @@
 // A layer that keeps an axis near where it stood when the fence was made.
-ghost use Rattle.std.specs.Prelude.{◌≡◌, min, pos};
+ghost use Rattle.std.specs.Prelude.{◌≡◌, pos};
+ghost use Rattle.layers.specs.Allowances.{capped};
 ghost use Rattle.layers.specs.Fences.{low_end, high_end};
 ghost use Rattle.std.proofs.Common.{rules};
 
@@ -19,8 +20,7 @@ impl<X: Axis> Fence<X> {
     // So far from here, each way capped at 1,000,000,000.
     pub fn new(below: X, allowance: Allowance) -> Fence<X>
         ensures below { result.below ≡ below }
-        ensures down { result.span.allowance.down ≡ min allowance.down 1000000000 }
-        ensures up { result.span.allowance.up ≡ min allowance.up 1000000000 }
+        ensures allowance { result.span.allowance ≡ capped allowance }
         ensures net { result.span.net ≡ pos 0 }
     {
         Fence {
@@ -30,6 +30,7 @@ impl<X: Axis> Fence<X> {
     }
 }
 
+// Written out, as in `Reversed`, which says why.
 impl<X: Drive> Drive for Fence<X> {
     ghost shows = { λ s. X.Drive.shows s.below };
 

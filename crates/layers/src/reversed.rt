@@ -19,7 +19,7 @@ impl<X: Axis> Reversed<X> {
     }
 }
 
-// What a layer only hands down it writes out, as `Fence` does: no impl can be for every layer at once, since the trait is another crate's.
+// Written out in each layer: an impl for all at once would need a trait of layers, and half of the members (place, ends, pulse) differ: no plainer.
 impl<X: Drive> Drive for Reversed<X> {
     ghost shows = { λ s. X.Drive.shows s.below };
 

@@ -1,13 +1,10 @@
 // How far an axis may go from where it stood, and how far it has gone.
-ghost use Rattle.std.specs.Prelude.{◌≡◌, ◌≤◌, min, true, false, pos, ◌+ℤ◌, neg_ℤ, ◌≤ℤ◌, IfNone, IfSome};
+ghost use Rattle.std.specs.Prelude.{◌≡◌, ◌≤◌, true, false, pos, ◌+ℤ◌, neg_ℤ, ◌≤ℤ◌, IfNone, IfSome};
 ghost use Rattle.axis.specs.Steps.{step};
-ghost use Rattle.layers.specs.Allowances.{allows};
+ghost use Rattle.layers.specs.Allowances.{allows, capped, widest};
 
 use crate::allowance::Allowance;
 use axis::direction::Direction;
-
-// The widest allowance each way, in pulses.
-const WIDEST: u32 = 1_000_000_000;
 
 #[derive(Clone, Copy)]
 pub struct Span {
@@ -15,8 +12,8 @@ pub struct Span {
     allowance: Allowance,
     // Pulses taken since, clockwise less counterclockwise.
     net: i32,
-    ghost down_capped: { allowance.down ≤ 1000000000 },
-    ghost up_capped: { allowance.up ≤ 1000000000 },
+    ghost down_capped: { allowance.down ≤ widest },
+    ghost up_capped: { allowance.up ≤ widest },
     ghost least: { neg_ℤ (pos allowance.down) ≤ℤ net },
     ghost most: { net ≤ℤ pos allowance.up },
 }
@@ -24,15 +21,11 @@ pub struct Span {
 impl Span {
     // An allowance past the widest counts as the widest.
     pub fn new(allowance: Allowance) -> Span
-        ensures down { result.allowance.down ≡ min allowance.down 1000000000 }
-        ensures up { result.allowance.up ≡ min allowance.up 1000000000 }
+        ensures allowance { result.allowance ≡ capped allowance }
         ensures net { result.net ≡ pos 0 }
     {
         Span {
-            allowance: Allowance {
-                down: allowance.down.min(WIDEST),
-                up: allowance.up.min(WIDEST),
-            },
+            allowance: allowance.capped(),
             net: 0,
         }
     }
