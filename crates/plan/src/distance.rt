@@ -6,7 +6,7 @@ use crate::leg::Leg;
 use crate::route::Legs;
 
 // A signed number of pulses, + clockwise; from one counter to another it is no longer than 2 to the 32.
-#[derive(Clone, Copy)]
+#[derive(Clone, Copy, PartialEq, Eq, Debug)]
 pub(crate) struct Distance {
     pulses: i64,
     ghost least: { neg_ℤ (pos 4294967296) ≤ℤ pulses },
@@ -18,8 +18,8 @@ impl Distance {
     pub(crate) fn to(x: i32, counter: i32, absolute: bool) -> Distance
         ensures { result.pulses ≡ distance x counter absolute }
     {
-        let x = x as i64;
-        let pulses = if absolute { x - counter as i64 } else { x };
+        let x = i64::from(x);
+        let pulses = if absolute { x - i64::from(counter) } else { x };
         Distance { pulses }
     }
 
@@ -37,7 +37,7 @@ impl Distance {
         ensures past { result.0.pulses ≡ self.pulses +ℤ backlash }
         ensures back { result.1.pulses ≡ neg_ℤ backlash }
     {
-        let backlash = backlash as i64;
+        let backlash = i64::from(backlash);
         (
             Leg {
                 pulses: self.pulses + backlash,

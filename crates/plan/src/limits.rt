@@ -6,7 +6,7 @@ ghost use Rattle.plan.specs.Limits.{enabled, past_limit, any_leg, allowed};
 use crate::fault::MoveFault;
 use crate::route::Legs;
 
-// Of the counter, as the board is set: one of 0 is none.
+// Of the counter, as the board is set. `Option<i32>` is no plainer: the parameter is a number of which 0 is none, and each caller would turn it.
 #[derive(Clone, Copy, PartialEq, Eq, Debug)]
 pub struct Limits {
     pub clockwise: i32,
@@ -31,16 +31,16 @@ impl Limits {
         ensures { result ≡ past_limit self.clockwise self.counterclockwise leg end }
     {
         if leg > 0 {
-            return is_enabled(self.clockwise) && end > self.clockwise as i64;
+            return is_enabled(self.clockwise) && end > i64::from(self.clockwise);
         }
-        leg < 0 && is_enabled(self.counterclockwise) && end < self.counterclockwise as i64
+        leg < 0 && is_enabled(self.counterclockwise) && end < i64::from(self.counterclockwise)
     }
 
     // Whether any leg is such, one after the other from the counter on.
     fn any_is_past(self, legs: Legs, counter: i32) -> bool
         ensures { result ≡ any_leg (past_limit self.clockwise self.counterclockwise) counter (listed legs) }
     {
-        let mut end = counter as i64;
+        let mut end = i64::from(counter);
         for leg in [Some(legs.first), legs.second, legs.third]
             .iter()
             .copied()

@@ -2,7 +2,7 @@
 use crate::leg::Leg;
 
 // One after the other.
-#[derive(Clone, Copy)]
+#[derive(Clone, Copy, PartialEq, Eq, Debug)]
 pub struct Legs {
     pub first: Leg,
     pub second: Option<Leg>,

@@ -93,9 +93,8 @@ const WRAPS: [Wrap; 11] = [
 #[test]
 fn counts_wrap(rt: HostRuntime) -> Result<(), Fail> {
     for case in WRAPS.iter() {
-        let Some(mut axis) = PinAxis::counted(case.before.0, case.before.1, true) else {
-            return Err(Fail::new("past the ends"));
-        };
+        let (clockwise, counterclockwise) = case.before;
+        let mut axis = PinAxis::counted(clockwise, counterclockwise, true).ok_or("past the ends")?;
         assert_eq!(rt; axis.pulse(case.way), case.taken);
         let (clockwise, counterclockwise) = case.after;
         assert_eq!(rt;
@@ -165,14 +164,10 @@ fn coils_turn(rt: HostRuntime) {
 
 #[test]
 fn phase_ends(rt: HostRuntime) -> Result<(), Fail> {
-    let Some(mut top) = PhaseAxis::at(249_999_999, 7, true) else {
-        return Err(Fail::new("past the ends"));
-    };
+    let mut top = PhaseAxis::at(249_999_999, 7, true).ok_or("past the ends")?;
     assert!(rt; !top.pulse(CW));
     assert!(rt; top.pulse(CCW));
-    let Some(mut bottom) = PhaseAxis::at(-250_000_000, 0, true) else {
-        return Err(Fail::new("past the ends"));
-    };
+    let mut bottom = PhaseAxis::at(-250_000_000, 0, true).ok_or("past the ends")?;
     assert!(rt; !bottom.pulse(CCW));
     assert!(rt; bottom.pulse(CW));
     assert!(rt; PhaseAxis::at(250_000_000, 0, true).is_none());

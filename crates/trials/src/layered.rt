@@ -77,9 +77,7 @@ const RAILS: [Rail; 6] = [
 #[test]
 fn fences_hold(rt: HostRuntime) -> Result<(), Fail> {
     for rail in RAILS.iter() {
-        let Some(pin) = PinAxis::counted(rail.counts.0, rail.counts.1, true) else {
-            return Err(Fail::new("past the ends"));
-        };
+        let pin = PinAxis::counted(rail.counts.0, rail.counts.1, true).ok_or("past the ends")?;
         let mut axis = Fence::new(pin, rail.allowance);
         assert_eq!(rt; stroke(&mut axis, CW, 2_000), rail.clockwise);
         assert_eq!(rt; stroke(&mut axis, CCW, rail.clockwise), rail.clockwise);
@@ -91,9 +89,7 @@ fn fences_hold(rt: HostRuntime) -> Result<(), Fail> {
 // An allowance past 1,000,000,000 counts as that.
 #[test]
 fn fence_is_capped(rt: HostRuntime) -> Result<(), Fail> {
-    let Some(pin) = PinAxis::counted(0, 1_000_000_000, true) else {
-        return Err(Fail::new("past the ends"));
-    };
+    let pin = PinAxis::counted(0, 1_000_000_000, true).ok_or("past the ends")?;
     let mut axis = Fence::new(
         pin,
         Allowance {
