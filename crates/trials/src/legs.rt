@@ -23,7 +23,7 @@ const INDEXES: [(i32, i32, bool, i32, bool, &[i64]); 7] = [
     ),
 ];
 
-fn are(legs: Option<Legs>, want: &[i64]) -> bool {
+fn have_pulses(legs: Option<Legs>, want: &[i64]) -> bool {
     let legs = legs.map_or(
         [None; 3],
         |legs| [Some(legs.first), legs.second, legs.third],
@@ -39,7 +39,7 @@ fn are(legs: Option<Legs>, want: &[i64]) -> bool {
 fn legs_of_an_index(rt: HostRuntime) {
     for (x, counter, absolute, backlash, reverse, want) in INDEXES {
         let legs = index(x, counter, absolute, backlash, reverse);
-        assert!(rt; are(legs, want));
+        assert!(rt; have_pulses(legs, want));
     }
 }
 
