@@ -60,7 +60,7 @@ impl<R: Read + Drop> Source<R> {
         let Some(mut byte) = self.byte()? else {
             return Ok(None);
         };
-        // Counted, since a loop with no bound wants a handle that waits, and none is allowed.
+        // Counted: a loop with no bound wants a handle that waits, and none is allowed.
         for _ in 0..u64::MAX {
             if byte == b'\n' {
                 break;
