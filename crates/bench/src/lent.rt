@@ -43,10 +43,10 @@ impl Lent {
     }
 
     pub fn lines(&mut self) -> &mut [Fields] {
-        match &mut self.other {
-            Some(other) => other.as_mut_slice(),
-            None => self.program.as_mut_slice(),
-        }
+        self.other
+            .as_mut()
+            .unwrap_or(&mut self.program)
+            .as_mut_slice()
     }
 
     pub fn answer(&mut self) -> &mut [u8] {

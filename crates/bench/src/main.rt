@@ -82,25 +82,20 @@ fn begin<I: Read + Drop, O: Write>(
     out: &mut O,
 ) -> io::Result<()> {
     let mut first = source.next();
-    // Counted, as in `Rows::on`, since a loop with no bound wants a handle that waits, and none is allowed.
+    // Counted: a loop with no bound wants a handle that waits, and none is allowed.
     for _ in 0..u64::MAX {
         match first {
             Ok(Some(Row::Remark)) => first = source.next(),
             _ => break,
         }
     }
-    let Ok(Some(Row::Axis(pile))) = first else {
-        let rows = Rows {
-            heap,
-            first,
-            source,
-            out,
-        };
-        return rows.on(standard(WIDE));
+    let (pile, first) = match first {
+        Ok(Some(Row::Axis(pile))) => (pile, source.next()),
+        other => (Pile::Standard(WIDE), other),
     };
     let rows = Rows {
         heap,
-        first: source.next(),
+        first,
         source,
         out,
     };
@@ -136,7 +131,7 @@ impl<I: Read + Drop, O: Write> Rows<'_, I, O> {
         } = self;
         let mut session = Session::new(heap, axis)?;
         let mut next = first;
-        // Counted, as in `begin`.
+        // Counted: a loop with no bound wants a handle that waits, and none is allowed.
         for _ in 0..u64::MAX {
             let done = match next {
                 Ok(None) => break,

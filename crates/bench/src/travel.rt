@@ -17,7 +17,7 @@ pub fn show_move<O: Write>(ramp: Ramp, count: u32, out: &mut O) -> io::Result<()
             "pulse {number} {} {rate} {} {ticks}",
             pulse.level, pulse.wait
         )?;
-        ticks = ticks.saturating_add(pulse.wait as u64);
+        ticks = ticks.saturating_add(u64::from(pulse.wait));
         highest = rate.max(highest);
     }
     writeln!(

@@ -6,7 +6,7 @@ use Rattle.reply.specs.declared.answer.Answer.{Answer}
 use Rattle.clerk.specs.declared.refusal.Refusal.{Refusal}
 use Rattle.clerk.specs.declared.refusal.Refusal.TheVariants.{Line, NoRoom}
 
--- n is the size of the answer memory; of an accepted line it hears how long the answer is, 0 for silence
+-- n is the size of the answer memory; of an accepted line it hears how many bytes the answer has, of which silence has none
 abbrev pub told : {F : Type 0} → ℕ → Result Answer F → Result ℕ (Refusal F)
 told n (Err f) = Err (Line f)
 told n (Ok a) = cond (ltb n 64) (Err NoRoom) (Ok (length (text a)))

@@ -9,7 +9,7 @@ use reply::slip::Slip;
 
 pub mod refusal;
 
-// How many bytes the answer has at the front of its memory, 0 for silence. A refused line tells its own refusal, whatever the memory.
+// How many bytes the answer has at the front of its memory: a count, of which silence has none. A refused line tells its own refusal, whatever the memory.
 pub fn settle<F: Copy>(mut slip: Slip<F>, out: &mut [u8]) -> Result<usize, Refusal<F>>
     requires { slip.settled ≡ false }
     ensures told { result ≡ told (length out.old) slip.outcome }

@@ -1,6 +1,6 @@
 // Why a host hears a refusal.
-ghost use Rattle.std.specs.Prelude.{◌≡◌};
-ghost use Rattle.clerk.specs.Refusals.{number_of, place_of};
+ghost use Rattle.std.specs.Prelude.{◌≡◌, Some};
+ghost use Rattle.clerk.specs.Refusals.{number_of, place_of, printed};
 ghost use Rattle.clerk.specs.declared.refusal.Refusal.TheVariants as fault;
 
 use program::fault::OrderFault;
@@ -46,6 +46,8 @@ impl Refusal<OrderFault> {
 }
 
 impl fmt::Display for Refusal<OrderFault> {
+    ghost output = { λ refusal. Some (printed refusal) };
+
     fn fmt<W: fmt::Write>(&self, f: &mut fmt::Formatter<W>) -> fmt::Result {
         write!(f, "refused {} at {}", self.number(), self.place())
     }

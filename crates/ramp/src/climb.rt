@@ -6,7 +6,7 @@ ghost use Rattle.ramp.specs.declared.mode.SpeedMode.TheVariants.{High};
 use crate::rate::Rate;
 use crate::root::whole_root;
 
-#[derive(Clone, Copy)]
+#[derive(Clone, Copy, PartialEq, Eq, Debug)]
 pub(crate) struct Climb {
     pub(crate) low: u32,
     pub(crate) acceleration: u32,

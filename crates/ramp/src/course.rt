@@ -5,7 +5,7 @@ use crate::shape::Ramp;
 
 pub mod pulses;
 
-#[derive(Clone, Copy)]
+#[derive(Clone, Copy, PartialEq, Eq, Debug)]
 pub struct Course {
     ramp: Ramp,
     motor: Motor,
@@ -13,7 +13,7 @@ pub struct Course {
     left: u32,
 }
 
-#[derive(Clone, Copy)]
+#[derive(Clone, Copy, PartialEq, Eq, Debug)]
 pub struct Pulse {
     pub level: u32,
     pub rate: Rate,

@@ -5,7 +5,7 @@ ghost use Rattle.ramp.specs.Rates.{ticks};
 // Ticks of the clock in a second.
 const CLOCK: u32 = 15_000_000;
 
-#[derive(Clone, Copy)]
+#[derive(Clone, Copy, PartialEq, Eq, Debug)]
 pub struct Rate {
     pub(crate) per_second: u32,
     ghost some: { 1 ≤ per_second },

@@ -7,7 +7,7 @@ use crate::mode::SpeedMode;
 
 pub mod levels;
 
-#[derive(Clone, Copy)]
+#[derive(Clone, Copy, PartialEq, Eq, Debug)]
 pub struct Ramp {
     mode: SpeedMode,
     climb: Climb,

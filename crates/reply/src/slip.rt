@@ -5,10 +5,11 @@ use crate::answer::Answer;
 
 pub mod settling;
 
-// It may be let go only once it is settled: a flag that the check reads, since a slip that is not may neither be dropped nor settled twice.
+// It may be let go only once it is settled.
 pub struct Slip<F: Copy> {
     // Of a refused line, why.
     outcome: Result<Answer, F>,
+    // A flag: the edits and the clause `settled` speak of it, and a method that takes the slip whole could not leave it settled for `Drop` to check.
     settled: bool,
 }
 

@@ -8,35 +8,20 @@ use scan::words::Words;
 
 // Without the one blank before it, and the carriage return that some hosts put before the line feed.
 fn typed(behind: &[u8]) -> &[u8] {
-    let line = match behind {
-        [_, line @ ..] => line,
-        [] => behind,
-    };
-    match line {
-        [text @ .., b'\r'] => text,
-        _ => line,
-    }
+    let line = behind.get(1..).unwrap_or(behind);
+    line.strip_suffix(b"\r").unwrap_or(line)
 }
 
-fn hex_digit(byte: u8) -> Option<u8>
+fn hex_digit(byte: u8) -> Option<u32>
     ensures { IfSome result (λ n. n < 16) }
 {
-    match byte {
-        b'0'..=b'9' => Some(byte - b'0'),
-        b'A'..=b'F' => Some(byte - b'A' + 10),
-        b'a'..=b'f' => Some(byte - b'a' + 10),
-        _ => None,
-    }
+    char::from(byte).to_digit(16)
 }
 
 // The byte of a word of two hexadecimal digits.
 fn hex_byte(word: &[u8]) -> Option<u8> {
     match word {
-        [high, low] => {
-            let high = hex_digit(*high)?;
-            let low = hex_digit(*low)?;
-            Some(high * 16 + low)
-        }
+        [high, low] => Some((hex_digit(*high)? * 16 + hex_digit(*low)?) as u8),
         _ => None,
     }
 }

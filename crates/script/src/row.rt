@@ -9,7 +9,7 @@ use scan::words::Words;
 const MOST: u32 = 4096;
 
 // The axis that a run is made on, by its layers from the top.
-#[derive(Clone, Copy)]
+#[derive(Clone, Copy, PartialEq, Eq, Debug)]
 pub enum Pile {
     Pin,
     Phase,
@@ -22,7 +22,7 @@ pub enum Pile {
 }
 
 // The numbers that a move's ramp depends on, not held to their ranges.
-#[derive(Clone, Copy)]
+#[derive(Clone, Copy, PartialEq, Eq, Debug)]
 pub enum Pace {
     Low {
         low: u32,
@@ -34,7 +34,7 @@ pub enum Pace {
     },
 }
 
-#[derive(Clone, Copy)]
+#[derive(Clone, Copy, PartialEq, Eq, Debug)]
 pub enum Row {
     // A remark, or an empty row.
     Remark,
@@ -53,7 +53,7 @@ pub enum Row {
 }
 
 // How a host line stands in its row.
-#[derive(Clone, Copy)]
+#[derive(Clone, Copy, PartialEq, Eq, Debug)]
 pub enum Form {
     Text,
     // Two hexadecimal digits a byte.
@@ -100,10 +100,11 @@ fn whole(word: Option<&[u8]>) -> Result<u32, Mistake> {
 }
 
 fn memory(words: &mut Words) -> Result<u32, Mistake> {
-    match words.next().and_then(number) {
-        Some(size) if size <= MOST => Ok(size),
-        _ => Err(Mistake::Memory),
-    }
+    words
+        .next()
+        .and_then(number)
+        .filter(|size| *size <= MOST)
+        .ok_or(Mistake::Memory)
 }
 
 fn pulse(words: &mut Words) -> Result<Row, Mistake> {

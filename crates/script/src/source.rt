@@ -17,7 +17,7 @@ const LONGEST: usize = 4096;
 #[derive(Drop)]
 pub struct Source<R> {
     stream: R,
-    // Read by hand: with the library's buffer the bound that an edit of must-fail/ breaks would be the library's own.
+    // Kept by hand: an edit of must-fail/ breaks the bound of this chunk, which with the library's buffer would not be ours to prove.
     // What is not read yet stands from `at`, before `end`.
     chunk: [u8; 512],
     at: usize,
@@ -60,7 +60,7 @@ impl<R: Read + Drop> Source<R> {
         let Some(mut byte) = self.byte()? else {
             return Ok(None);
         };
-        // Counted, since a loop with no bound wants a handle that waits, and none is allowed.
+        // Counted: a loop with no bound wants a handle that waits, and none is allowed.
         for _ in 0..u64::MAX {
             if byte == b'\n' {
                 break;

@@ -36,7 +36,7 @@ pub struct Settings {
     transfer_code: i32,
     backlash: i32,
     auto_reverse: bool,
-    // A fact for each: a number's own type would need the resolution and the parameter in it.
+    // A fact for each: a number's own type would need the resolution and the parameter in it, and one fact over all the table `value` of specs/, which takes a whole Settings, as no invariant of Settings can name yet.
     ghost resolved: { Resolution resolution },
     ghost jog_speed_fits: { fits resolution JogSpeed jog_speed ≡ true },
     ghost acceleration_fits: { fits resolution Acceleration acceleration ≡ true },

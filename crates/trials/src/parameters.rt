@@ -57,8 +57,5 @@ fn home_direction(rt: HostRuntime) -> Result<(), Fail> {
 
 #[test]
 fn no_other_codes(rt: HostRuntime) {
-    let count = (0..=255)
-        .filter(|&code| Parameter::coded(code).is_some())
-        .count();
-    assert_eq!(rt; count, 17);
+    assert_eq!(rt; (0..=255).filter_map(Parameter::coded).count(), 17);
 }

@@ -164,7 +164,7 @@ fn too_little_room(rt: HostRuntime) {
     assert_eq!(rt; settle(slip, &mut memory), Err(short));
     assert_eq!(rt; short.number(), 2);
     assert_eq!(rt; short.place(), 0);
-    assert!(rt; memory.iter().all(|byte| *byte == b'?'));
+    assert_eq!(rt; memory, [b'?'; 63]);
 }
 
 // A line that was refused tells its own refusal, and writes nothing.
@@ -175,5 +175,5 @@ fn refused_line(rt: HostRuntime) {
     let told = settle(slip, &mut memory);
     assert_eq!(rt; told, Err(Refusal::Line(OrderFault::Busy)));
     assert_eq!(rt; Refusal::Line(OrderFault::Busy).number(), 9);
-    assert!(rt; memory.iter().all(|byte| *byte == b'?'));
+    assert_eq!(rt; memory, [b'?'; 64]);
 }

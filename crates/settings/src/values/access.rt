@@ -14,7 +14,7 @@ use std::ops::RangeInclusive;
 
 const EIGHT_DIGITS: i32 = 99_999_999;
 
-// Tables, since the users of Settings wanted each parameter as a named field.
+// Reading and setting by code are tables over the fields: each parameter is a field of its own name (docs/DECISIONS.md), which no index reaches.
 impl Settings {
     pub fn get(&self, parameter: Parameter) -> i32
         ensures { result ≡ value self.now parameter }
@@ -49,19 +49,16 @@ impl Settings {
         match parameter {
             Parameter::RunFormat => 1..=3,
             Parameter::HomeDirection => i32::MIN..=i32::MAX,
-            Parameter::JogSpeed => 1..=self.top_speed(),
-            Parameter::HomeSpeed => 1..=self.top_speed(),
+            Parameter::JogSpeed | Parameter::HomeSpeed => 1..=self.top_speed(),
             Parameter::LowSpeed => 0..=self.top_speed(),
-            Parameter::Acceleration => 1..=EIGHT_DIGITS,
-            Parameter::StepLength => 1..=EIGHT_DIGITS,
-            Parameter::HomeOffset => -EIGHT_DIGITS..=EIGHT_DIGITS,
-            Parameter::ClockwiseLimit => -EIGHT_DIGITS..=EIGHT_DIGITS,
-            Parameter::CounterclockwiseLimit => -EIGHT_DIGITS..=EIGHT_DIGITS,
-            Parameter::Backlash => -EIGHT_DIGITS..=EIGHT_DIGITS,
+            Parameter::Acceleration | Parameter::StepLength => 1..=EIGHT_DIGITS,
+            Parameter::HomeOffset
+            | Parameter::ClockwiseLimit
+            | Parameter::CounterclockwiseLimit
+            | Parameter::Backlash => -EIGHT_DIGITS..=EIGHT_DIGITS,
             Parameter::StartLine => 1..=400,
             Parameter::ChangeoverTime => 0..=9_999,
-            Parameter::SwitchInputs => 0..=1,
-            Parameter::AutoReverse => 0..=1,
+            Parameter::SwitchInputs | Parameter::AutoReverse => 0..=1,
             Parameter::FurtherRuns => 0..=EIGHT_DIGITS,
             Parameter::TransferCode => 0..=99,
         }

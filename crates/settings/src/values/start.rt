@@ -1,6 +1,4 @@
 // The parameters of a new indexer.
-ghost use Rattle.std.specs.Prelude.{◌≡◌};
-ghost use Rattle.settings.specs.Parameters.{row};
 ghost use Rattle.settings.specs.Values.{Started};
 
 use super::Settings;
