@@ -36,7 +36,7 @@ impl Field {
         let last = &digits[from..];
         let mut n = 0u32;
         for digit in last {
-            n = n * 10 + digit.saturating_sub(b'0') as u32;
+            n = n * 10 + u32::from(digit.saturating_sub(b'0'));
         }
         n
     }
