@@ -1,5 +1,6 @@
 -- Number, place and layer of what is wrong with a line.
-use Rattle.std.specs.Prelude.{ℕ, cond, nat_le}
+use Rattle.std.specs.Prelude.{ℕ, cond, nat_le, List, ◌++◌, codes}
+use Rattle.std.specs.Fmt.{decimal}
 use Rattle.words.specs.declared.word.ByteFault.TheVariants.{TooLong, Blank, OpensNone}
 use Rattle.orders.specs.declared.fault.WordFault.{WordFault}
 use Rattle.orders.specs.declared.fault.WordFault.TheVariants.{Byte, Missing, Foreign, NoCode, OutOfRange}
@@ -31,3 +32,7 @@ layer_numbered n = cond (nat_le n 4) Bytes (cond (nat_le n 8) Words Orders)
 
 abbrev pub layer_of : WordFault → Layer
 layer_of e = layer_numbered (number_of e)
+
+-- as it is told in words
+abbrev pub told : WordFault → List ℕ
+told e = codes "refused " ++ decimal (number_of e) ++ codes " at " ++ decimal (place_of e)

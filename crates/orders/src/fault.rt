@@ -1,6 +1,6 @@
 // What is wrong with a line that is no order.
-ghost use Rattle.std.specs.Prelude.{◌≡◌};
-ghost use Rattle.orders.specs.Faults.{number_of, place_of, layer_of};
+ghost use Rattle.std.specs.Prelude.{◌≡◌, Some};
+ghost use Rattle.orders.specs.Faults.{number_of, place_of, layer_of, told};
 ghost use Rattle.orders.specs.declared.fault.WordFault.TheVariants.{Byte};
 
 use std::fmt;
@@ -77,6 +77,8 @@ impl WordFault {
 }
 
 impl fmt::Display for WordFault {
+    ghost output = { λ fault. Some (told fault) };
+
     fn fmt<W: fmt::Write>(&self, f: &mut fmt::Formatter<W>) -> fmt::Result {
         write!(f, "refused {} at {}", self.number(), self.place())
     }

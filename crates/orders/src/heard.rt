@@ -20,6 +20,15 @@ pub struct Fields {
     pub feed: Option<u32>,
 }
 
+impl Fields {
+    // Of a line with no field.
+    pub const NONE: Fields = Fields {
+        code: None,
+        x: None,
+        feed: None,
+    };
+}
+
 #[derive(Clone, Copy, PartialEq, Eq, Debug)]
 pub struct Heard {
     pub line: Option<u32>,

@@ -27,11 +27,7 @@ impl Heard {
     {
         Heard {
             line: None,
-            fields: Fields {
-                code: None,
-                x: None,
-                feed: None,
-            },
+            fields: Fields::NONE,
             setting: None,
             host: None,
         }

@@ -38,6 +38,7 @@ pub fn open<'a>(line: &'a [u8], settings: &Settings) -> Result<Start<'a>, WordFa
     }
 }
 
+// Tried as one with `read`: the laws stayed open at four ways out, where the call of this gives them one value to speak of.
 fn by_kind(line: &[u8], settings: &Settings) -> Result<Order, WordFault>
     ensures { result ≡ reading settings.now.resolution line.now }
 {

@@ -14,6 +14,7 @@ use settings::values::Settings;
 use words::word::Word;
 
 // Program lines count from 1 to this.
+// Not program's own count, which is above this crate, and each has an edit that breaks it.
 const LINES: u32 = 400;
 
 // Digits are missing, or the sign of a home direction.

@@ -9,11 +9,7 @@ use crate::number::lines::LINES;
 use orders::heard::Fields;
 
 // A line with no field.
-pub const UNPROGRAMMED: Fields = Fields {
-    code: None,
-    x: None,
-    feed: None,
-};
+pub const UNPROGRAMMED: Fields = Fields::NONE;
 
 // Unless the memory is not 400 lines, and then nothing changes.
 pub fn clear(lines: &mut [Fields], line: LineNumber) -> Result<(), OrderFault>

@@ -40,8 +40,7 @@ impl OrderFault {
     {
         match self {
             OrderFault::Word(fault) => fault.place(),
-            OrderFault::Memory => 0,
-            OrderFault::Busy => 0,
+            OrderFault::Memory | OrderFault::Busy => 0,
         }
     }
 
@@ -50,8 +49,7 @@ impl OrderFault {
     {
         match self {
             OrderFault::Word(fault) => fault.layer(),
-            OrderFault::Memory => Layer::Orders,
-            OrderFault::Busy => Layer::Orders,
+            OrderFault::Memory | OrderFault::Busy => Layer::Orders,
         }
     }
 }

@@ -95,7 +95,7 @@ pub fn target_of(reader: Reader<'_>, pointer: LineNumber, settings: &Settings) -
 {
     let mut hearing = Hearing::new(reader, false);
     match hearing.word(settings) {
-        Ok(some) => line_or(hearing.heard().line, pointer),
-        Err(fault) => pointer,
+        Ok(_) => line_or(hearing.heard().line, pointer),
+        Err(_) => pointer,
     }
 }

@@ -18,9 +18,7 @@ fn line_about(order: Order, named: LineNumber, pointer: LineNumber) -> LineNumbe
     ensures { result.number ≡ (if addressed order then named.number else pointer.number) }
 {
     match order {
-        Order::Point { .. } => named,
-        Order::Store { .. } => named,
-        Order::Act { .. } => named,
+        Order::Point { .. } | Order::Store { .. } | Order::Act { .. } => named,
         _ => pointer,
     }
 }

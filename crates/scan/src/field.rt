@@ -34,9 +34,10 @@ impl Field {
     {
         let from = digits.len().saturating_sub(self.width());
         let last = &digits[from..];
+        // Tried as a fold: that its closure does not overflow stayed open, since it knows no count of the digits before.
         let mut n = 0u32;
         for digit in last {
-            n = n * 10 + digit.saturating_sub(b'0') as u32;
+            n = n * 10 + u32::from(digit.saturating_sub(b'0'));
         }
         n
     }

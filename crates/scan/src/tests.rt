@@ -41,9 +41,8 @@ fn cut_rows(rt: HostRuntime) {
     assert_eq!(rt; words.next(), Some(b"pin".as_slice()));
     assert!(rt; words.next().is_none());
     assert!(rt; words.next().is_none());
-    let mut letters = 0usize;
-    for word in Words::new(b"fence 1 2 pin") {
-        letters = letters.saturating_add(word.len());
-    }
+    let letters = Words::new(b"fence 1 2 pin")
+        .map(|word| word.len())
+        .sum::<usize>();
     assert_eq!(rt; letters, 10);
 }

@@ -61,6 +61,6 @@ impl<'a> Iterator for Words<'a> {
         let trimmed = past::<Blank>(self.rest);
         let (word, rest) = split::<Visible>(trimmed);
         self.rest = rest;
-        if word.is_empty() { None } else { Some(word) }
+        (!word.is_empty()).then_some(word)
     }
 }

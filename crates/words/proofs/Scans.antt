@@ -1,13 +1,14 @@
 -- One word more of the search for a byte that opens none.
-use Rattle.std.proofs.Common.{◌≡◌, ℕ, zero, suc, ◌-◌, ◌<◌, ◌≤◌, true, false, cond, eqb, List, [], length, Some, None, inl, inr, sym, refl, ap, ◌∙◌, arith}
+use Rattle.std.proofs.Common.{◌≡◌, ℕ, zero, suc, ◌-◌, ◌<◌, ◌≤◌, true, false, cond, eqb, List, [], length, Some, None, Ok, Option, is_some, inl, inr, sym, refl, ap, ◌∙◌, rules, arith}
 use Rattle.std.proofs.lemmas.Bool.{cases_lt}
 use Rattle.std.proofs.lemmas.Bool.Decides.{nat_tests}
 use Rattle.std.proofs.lemmas.List.{nil_from_length}
 use Rattle.words.specs.Bytes.{blank, letter}
 use Rattle.scan.specs.Runs.{past}
 use Rattle.words.specs.Words.{behind}
-use Rattle.words.specs.Reading.{opening, body, place_in}
+use Rattle.words.specs.Reading.{Reads, opening, body, place_in}
 use Rattle.words.specs.Checking.{first_bad}
+use Rattle.words.specs.declared.word.Word.{Word}
 use Rattle.words.proofs.Lengths.{shorter, word_taken}
 
 pub at_end : (k n : ℕ) (bs : List ℕ) → past blank bs ≡ [] → first_bad k n bs ≡ None
@@ -52,3 +53,13 @@ module _ (n : ℕ) (bs : List ℕ) (some : 0 < length (past blank bs)) where
       by : (k : ℕ) → 0 < k → first_bad k n bs ≡ Some (place_in n bs)
       by zero h = absurd (omega arith)
       by (suc k) h = rw (some_there (length (past blank bs)) some, opens)
+
+-- what is read of a line says where the search stands
+pub past_some : (n : ℕ) (bs after : List ℕ) (o : Option Word) → Reads n bs after (Ok o) → is_some o ≡ true
+    → first_bad (length after) n after ≡ first_bad (length bs) n bs
+past_some n bs after (Some w) r some = past_word n bs r.0 after r.1 r.3
+past_some n bs after None r some = absurd (grind rules)
+
+pub none_bad : (n : ℕ) (bs after : List ℕ) (o : Option Word) → Reads n bs after (Ok o) → is_some o ≡ false → first_bad (length bs) n bs ≡ None
+none_bad n bs after None r none = search (rules, at_end)
+none_bad n bs after (Some w) r none = absurd (grind rules)

@@ -8,6 +8,6 @@ use crate::word::ByteFault;
 pub fn check(mut reader: Reader<'_>) -> Result<(), ByteFault>
     ensures { Checked reader.entry.length reader.entry.rest.now result }
 {
-    while let Some(_) = reader.word()? {}
+    while reader.word()?.is_some() {}
     Ok(())
 }

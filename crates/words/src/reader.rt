@@ -1,5 +1,5 @@
 // One word after the other.
-ghost use Rattle.std.specs.Prelude.{◌≡◌, true, false, MatchOption};
+ghost use Rattle.std.specs.Prelude.{◌≡◌, ◌↔◌, true, IsSome, IfSome};
 ghost use Rattle.words.specs.Bytes.{letter};
 ghost use Rattle.words.specs.Words.{spelled, word_of, behind};
 ghost use Rattle.words.specs.Reading.{Reads};
@@ -43,7 +43,9 @@ impl<'a> Reader<'a> {
 
 // The word of this letter and what stands behind it, if it is a letter.
 fn opened(opening: u8, place: usize, body: &[u8]) -> Option<(Word<'_>, &[u8])>
-    ensures { MatchOption result (letter opening ≡ false) (λ r. (letter opening ≡ true) × (spelled r.0 ≡ word_of place opening body.now) × (r.1.now ≡ behind opening body.now)) }
+    ensures letter { IsSome result ↔ (letter opening ≡ true) }
+    ensures word { IfSome result (λ r. spelled r.0 ≡ word_of place opening body.now) }
+    ensures behind { IfSome result (λ r. r.1.now ≡ behind opening body.now) }
 {
     let (digits, behind) = run_of_digits(body);
     match char::from(opening) {

@@ -25,7 +25,7 @@ impl Kind for Digit {
     ghost includes = { digit };
 
     fn is(byte: u8) -> bool {
-        byte >= b'0' && byte <= b'9'
+        byte.is_ascii_digit()
     }
 }
 

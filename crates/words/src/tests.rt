@@ -27,10 +27,7 @@ const BYTES: [(&[u8], Option<usize>); 14] = [
 #[test]
 fn bad_bytes(rt: HostRuntime) {
     for (line, place) in BYTES {
-        let want = match place {
-            Some(place) => Err(ByteFault::OpensNone { place }),
-            None => Ok(()),
-        };
+        let want = place.map_or(Ok(()), |place| Err(ByteFault::OpensNone { place }));
         assert_eq!(rt; check_bytes(Reader::new(line, line.len())), want);
     }
 }

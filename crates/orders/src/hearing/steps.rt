@@ -23,6 +23,7 @@ fn next_word<'a>(reader: &mut Reader<'a>) -> Option<Word<'a>>
 fn names_line(mut reader: Reader<'_>) -> bool
     ensures { result ≡ named (words reader.entry.length reader.entry.rest.now) }
 {
+    // Tried as `any` over `from_fn`: that the words end stayed open, since std promises no end of a `from_fn`.
     while let Some(word) = next_word(&mut reader) {
         if word.is_line() {
             return true;

@@ -1,9 +1,9 @@
 // Line numbers, and where their lines stand in the memory.
-ghost use Rattle.std.specs.Prelude.{◌≡◌, ◌-◌, ◌<◌, ◌≤◌, MatchOption};
+ghost use Rattle.std.specs.Prelude.{◌≡◌, ◌-◌, ◌<◌, ◌≤◌, IfNone, IfSome};
 
 use super::LineNumber;
 
-// How many lines a program has.
+// How many lines a program has. Not orders' own count, which is below this crate, and each has an edit that breaks it.
 pub const LINES: usize = 400;
 
 impl LineNumber {
@@ -15,12 +15,10 @@ impl LineNumber {
 
     // None where there is no such line.
     pub fn new(number: u32) -> Option<LineNumber>
-        ensures { MatchOption result ((1 ≤ number) × (number ≤ 400) → ⊥) (λ n. n.number ≡ number) }
+        ensures none { IfNone result ((1 ≤ number) × (number ≤ 400) → ⊥) }
+        ensures number { IfSome result (λ n. n.number ≡ number) }
     {
-        if number < 1 {
-            return None;
-        }
-        if number > 400 {
+        if !(1..=LINES).contains(&(number as usize)) {
             return None;
         }
         Some(LineNumber { number })

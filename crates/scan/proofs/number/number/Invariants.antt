@@ -1,4 +1,4 @@
-use Rattle.std.proofs.Common.{◌≡◌, ◌^◌, ◌<◌, length, drop}
+use Rattle.std.proofs.Common.{◌≡◌, ◌<◌, length, drop}
 use Rattle.scan.specs.Numbers.{digits, read_on, value}
 use Rattle.scan.proofs.number.number.Given as goal
 
@@ -6,5 +6,4 @@ abbrev pub invariant-loop-digit : goal.invariant-loop-digit
 invariant-loop-digit l =
     (read_on l.n (drop l.digit-index l.word) ≡ value l.word)
     × (digits (drop l.digit-index l.word) ≡ digits l.word)
-    × (l.n < 2 ^ 32)
     × (0 < length l.word)

@@ -20,7 +20,5 @@ only_blanks bs none =
       | inr h ↦ drop_all r bs h
     ]
 
-pub returns-then-is_empty-clause-steps : goal.returns-then-is_empty-clause-steps
-returns-then-is_empty-clause-steps c =
-    let none : length (first_word c.args.self.now.rest.now) ≡ 0 = search rules in
-    (only_blanks c.args.self.now.rest.now none, search rules)
+pub returns-clause-steps : goal.returns-clause-steps
+returns-clause-steps c = (search (rules, only_blanks), search rules)
