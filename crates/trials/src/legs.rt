@@ -1,45 +1,42 @@
 // The legs of an index and where they may end, worked by hand.
 use plan::fault::MoveFault;
+use plan::leg::Leg;
 use plan::legs::index;
 use plan::limits::{Limits, check};
 use plan::route::Legs;
 use std::test::Fail;
 
-// X, the counter, absolute, backlash, way back, and the legs.
-const INDEXES: [(i32, i32, bool, i32, bool, &[i64]); 7] = [
-    (100, 0, false, 5, true, &[105, -5, -100]),
-    (100, 30, true, 0, false, &[70]),
-    (-100, 0, false, -5, false, &[-105, 5]),
-    (-100, 0, false, 5, true, &[-100, 100]),
-    (7, 7, true, 5, true, &[]),
-    (0, 9, false, 5, true, &[]),
+// X, the counter, absolute, backlash, way back, and the legs: out, backlash, way back.
+const INDEXES: [(i32, i32, bool, i32, bool, [Option<i64>; 3]); 7] = [
+    (100, 0, false, 5, true, [Some(105), Some(-5), Some(-100)]),
+    (100, 30, true, 0, false, [Some(70), None, None]),
+    (-100, 0, false, -5, false, [Some(-105), Some(5), None]),
+    (-100, 0, false, 5, true, [Some(-100), None, Some(100)]),
+    (7, 7, true, 5, true, [None; 3]),
+    (0, 9, false, 5, true, [None; 3]),
     (
         2_147_483_647,
         -2_147_483_648,
         true,
         1,
         false,
-        &[4_294_967_296, -1],
+        [Some(4_294_967_296), Some(-1), None],
     ),
 ];
 
-fn have_pulses(legs: Option<Legs>, want: &[i64]) -> bool {
+fn pulses(legs: Option<Legs>) -> [Option<i64>; 3] {
     let legs = legs.map_or(
         [None; 3],
         |legs| [Some(legs.first), legs.second, legs.third],
     );
-    legs.iter()
-        .copied()
-        .flatten()
-        .map(|leg| leg.pulses)
-        .eq(want.iter().copied())
+    legs.map(|leg: Option<Leg>| leg.map(|leg| leg.pulses))
 }
 
 #[test]
 fn legs_of_an_index(rt: HostRuntime) {
     for (x, counter, absolute, backlash, reverse, want) in INDEXES {
-        let legs = index(x, counter, absolute, backlash, reverse);
-        assert!(rt; have_pulses(legs, want));
+        let legs = pulses(index(x, counter, absolute, backlash, reverse));
+        assert_eq!(rt; legs, want);
     }
 }
 
