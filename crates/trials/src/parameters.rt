@@ -34,9 +34,9 @@ fn ends_of_ranges(rt: HostRuntime) -> Result<(), Fail> {
         assert!(rt; settings.set(parameter, least.saturating_sub(1)).is_err());
         assert!(rt; settings.set(parameter, most.saturating_add(1)).is_err());
         assert_eq!(rt; settings.get(parameter), start);
-        assert!(rt; settings.set(parameter, most).is_ok());
+        settings.set(parameter, most)?;
         assert_eq!(rt; settings.get(parameter), most);
-        assert!(rt; settings.set(parameter, least).is_ok());
+        settings.set(parameter, least)?;
         assert_eq!(rt; settings.get(parameter), least);
     }
     Ok(())
@@ -49,7 +49,7 @@ fn home_direction(rt: HostRuntime) -> Result<(), Fail> {
     let home = Parameter::try_from(8)?;
     assert_eq!(rt; settings.get(home), 1);
     for (number, kept) in [(-1, -1), (0, 1), (i32::MIN, -1), (i32::MAX, 1), (-99, -1)] {
-        assert!(rt; settings.set(home, number).is_ok());
+        settings.set(home, number)?;
         assert_eq!(rt; settings.get(home), kept);
     }
     Ok(())
