@@ -4,6 +4,7 @@ pub mod Laws
 pub mod Lines
 pub mod Meanings
 pub mod Orders
+pub mod Printed
 pub mod Starts
 pub mod Tables
 pub mod Widths

@@ -1,4 +1,7 @@
 // What the words of a line have said so far.
+ghost use Rattle.std.specs.Prelude.{Some};
+ghost use Rattle.orders.specs.Printed.{printed_setting, printed_fields};
+
 use codes::coded::Coded;
 use codes::host::HostCode;
 use codes::program::ProgramCode;
@@ -38,6 +41,8 @@ pub struct Heard {
 }
 
 impl fmt::Display for Setting {
+    ghost output = { λ setting. Some (printed_setting setting) };
+
     fn fmt<W: fmt::Write>(&self, f: &mut fmt::Formatter<W>) -> fmt::Result {
         let code = self.parameter.code();
         if self.parameter == Parameter::HomeDirection {
@@ -50,6 +55,8 @@ impl fmt::Display for Setting {
 
 // A blank stands before each field.
 impl fmt::Display for Fields {
+    ghost output = { λ fields. Some (printed_fields fields) };
+
     fn fmt<W: fmt::Write>(&self, f: &mut fmt::Formatter<W>) -> fmt::Result {
         if let Some(code) = self.code {
             write!(f, " G{:02}", code.code())?;

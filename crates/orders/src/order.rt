@@ -1,4 +1,7 @@
 // What a line orders.
+ghost use Rattle.std.specs.Prelude.{Some};
+ghost use Rattle.orders.specs.Printed.{printed_order};
+
 use crate::heard::{Fields, Setting};
 use codes::coded::Coded;
 use codes::host::HostCode;
@@ -21,6 +24,8 @@ pub enum Order {
 }
 
 impl fmt::Display for Order {
+    ghost output = { λ order. Some (printed_order order) };
+
     fn fmt<W: fmt::Write>(&self, f: &mut fmt::Formatter<W>) -> fmt::Result {
         match *self {
             Order::Clear => f.write_str("clear"),
@@ -33,9 +38,12 @@ impl fmt::Display for Order {
                 None => write!(f, "store at the pointer's line:{fields}"),
             },
             Order::Set { setting } => write!(f, "{setting}"),
-            Order::Act { line, code } => match line {
-                Some(line) => write!(f, "do H{:02} with line {line}", code.code()),
-                None => write!(f, "do H{:02}", code.code()),
+            Order::Act { line, code } => {
+                write!(f, "do H{:02}", code.code())?;
+                match line {
+                    Some(line) => write!(f, " with line {line}"),
+                    None => Ok(()),
+                }
             },
         }
     }
