@@ -45,6 +45,7 @@ impl Refusal<OrderFault> {
     }
 }
 
+// As a WordFault prints itself: one impl for all that has a number and a place is not allowed.
 impl fmt::Display for Refusal<OrderFault> {
     ghost output = { λ refusal. Some (printed refusal) };
 

@@ -3,7 +3,7 @@ use crate::contact::Contact;
 
 pub mod sampling;
 
-#[derive(Clone, Copy)]
+#[derive(Clone, Copy, PartialEq, Eq, Debug)]
 pub struct Panel {
     // Each by its switch's bit.
     contacts: [Contact; 8],

@@ -6,7 +6,7 @@ ghost use Rattle.layers.specs.Allowances.{allows, capped, widest};
 use crate::allowance::Allowance;
 use axis::direction::Direction;
 
-#[derive(Clone, Copy)]
+#[derive(Clone, Copy, PartialEq, Eq, Debug)]
 pub struct Span {
     // From where it began.
     allowance: Allowance,

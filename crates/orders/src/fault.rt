@@ -76,6 +76,7 @@ impl WordFault {
     }
 }
 
+// As clerk's Refusal prints itself: one impl for all that has a number and a place is not allowed.
 impl fmt::Display for WordFault {
     ghost output = { λ fault. Some (told fault) };
 

@@ -88,6 +88,7 @@ impl Axis for PhaseAxis {
 
     ghost most = { Prim.search rules };
 
+    // This and the next two are every drive's; the members that differ are more, and no trait of drives would be shorter.
     fn resolution() -> u32 {
         Self::R
     }

@@ -41,6 +41,7 @@ impl Limits {
         ensures { result ≡ any_leg (past_limit self.clockwise self.counterclockwise) counter (listed legs) }
     {
         let mut end = i64::from(counter);
+        // Of a slice's `iter`, since std has lemmas on what that yields, and none on an array's own.
         for leg in [Some(legs.first), legs.second, legs.third]
             .iter()
             .copied()

@@ -20,7 +20,7 @@ fn put(out: &mut [u8], bytes: &[u8]) -> usize
 }
 
 // How many bytes were written, all at the front.
-// A slice that is long enough, and not a `&mut [u8; 64]`: its number would be a type's, which the edit that takes 63 could not turn.
+// A slice that is long enough, and no chunk of 64 bytes, which `settle`'s clauses would have to join to the rest of the memory again.
 pub fn write(out: &mut [u8], answer: Answer) -> usize
     requires { 64 ≤ length out.old }
     ensures count { result ≡ length (text answer) }

@@ -18,7 +18,7 @@ const CW: Direction = Direction::Clockwise;
 
 const CCW: Direction = Direction::Counterclockwise;
 
-const LAST: u32 = 4_294_967_295;
+const LAST: u32 = u32::MAX;
 
 // Around 0 and 2^31 of each count, and at both ends of the travel with counts that wrapped and that did not.
 const WRAPS: [Wrap; 11] = [

@@ -11,7 +11,7 @@ use crate::motor::Motor;
 use crate::rate::Rate;
 
 impl Ramp {
-    // None where a number is out of its range, or the low speed is 0 at low speed.
+    // None where a number is out of its range, or the low speed is 0 at low speed. Three numbers: out of range there is no Climb to take.
     pub fn new(mode: SpeedMode, low: u32, acceleration: u32, speed: u32) -> Option<Ramp>
         ensures numbers { MatchOption result (in_range mode low acceleration speed ≡ false) (λ a. HasNumbers low acceleration speed a.climb) }
         ensures mode { IfSome result (λ a. a.mode ≡ mode) }
