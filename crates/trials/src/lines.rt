@@ -7,7 +7,6 @@ use orders::heard::Fields;
 use orders::order::Order;
 use orders::reading::read;
 use pin::drive::PinAxis;
-use settings::parameter::Parameter;
 use settings::values::Settings;
 use std::test::Fail;
 
@@ -77,13 +76,9 @@ const REFUSED: [(&[u8], u8, usize); 58] = [
 fn refusals(rt: HostRuntime) -> Result<(), Fail> {
     let settings = Settings::new::<PinAxis>();
     for (line, number, place) in REFUSED {
-        match read(line, &settings) {
-            Ok(_) => return Err(Fail::new("not refused")),
-            Err(fault) => {
-                assert_eq!(rt; fault.number(), number);
-                assert_eq!(rt; fault.place(), place);
-            }
-        }
+        let fault = read(line, &settings).err().ok_or("not refused")?;
+        assert_eq!(rt; fault.number(), number);
+        assert_eq!(rt; fault.place(), place);
     }
     Ok(())
 }
@@ -149,7 +144,7 @@ const SET: [(&[u8], u8, i32); 10] = [
 #[test]
 fn settings_of_parameters(rt: HostRuntime) -> Result<(), Fail> {
     for (line, code, number) in SET {
-        let Ok(Order::Set { setting }) = ordered(line) else {
+        let Order::Set { setting } = ordered(line)? else {
             return Err(Fail::new("not set"));
         };
         assert_eq!(rt; setting.parameter.code(), code);

@@ -33,9 +33,9 @@ fn refused_words(rt: HostRuntime) -> Result<(), Fail> {
     let settings = Settings::new::<PinAxis>();
     for (line, busy, number, place) in REFUSED {
         let mut lines = [OLD; 400];
-        let Err(fault) = take(&mut lines, LineNumber::first(), line, &settings, busy) else {
-            return Err(Fail::new("not refused"));
-        };
+        let fault = take(&mut lines, LineNumber::first(), line, &settings, busy)
+            .err()
+            .ok_or("not refused")?;
         assert_eq!(rt; fault.number(), number);
         assert_eq!(rt; fault.place(), place);
         assert_eq!(rt; lines, [OLD; 400]);
@@ -71,9 +71,7 @@ fn stored_whole(rt: HostRuntime) -> Result<(), Fail> {
     let settings = Settings::new::<PinAxis>();
     let first = LineNumber::first();
     let mut lines = [OLD; 400];
-    let Ok(taken) = take(&mut lines, first, b"N400 X-5", &settings, false) else {
-        return Err(Fail::new("refused"));
-    };
+    let taken = take(&mut lines, first, b"N400 X-5", &settings, false)?;
     let last = Fields {
         x: Some(-5),
         ..UNPROGRAMMED

@@ -20,12 +20,6 @@ const LAST: Fields = Fields {
     feed: Some(9_999_999),
 };
 
-const EMPTY: Fields = Fields {
-    code: None,
-    x: None,
-    feed: None,
-};
-
 const FORMATS: [(Answer, &[u8]); 13] = [
     (Answer::Nothing, b""),
     (
@@ -38,7 +32,7 @@ const FORMATS: [(Answer, &[u8]); 13] = [
     (
         Answer::ProgramLine {
             number: 1,
-            fields: EMPTY,
+            fields: Fields::NONE,
         },
         b"N001                        \r\n",
     ),

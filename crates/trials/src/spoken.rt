@@ -14,12 +14,6 @@ const FIELDS: Fields = Fields {
     feed: Some(2000),
 };
 
-const NONE: Fields = Fields {
-    code: None,
-    x: None,
-    feed: None,
-};
-
 fn set(parameter: Parameter, number: i32) -> Order {
     Order::Set {
         setting: Setting { parameter, number },
@@ -45,7 +39,7 @@ fn orders_in_words(rt: HostRuntime) -> Result<(), Fail> {
         (
             Order::Store {
                 line: None,
-                fields: NONE,
+                fields: Fields::NONE,
             },
             "store at the pointer's line:",
         ),
