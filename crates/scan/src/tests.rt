@@ -41,8 +41,9 @@ fn cut_rows(rt: HostRuntime) {
     assert_eq!(rt; words.next(), Some(b"pin".as_slice()));
     assert!(rt; words.next().is_none());
     assert!(rt; words.next().is_none());
-    let letters = Words::new(b"fence 1 2 pin")
-        .map(|word| word.len())
-        .sum::<usize>();
+    let letters = Words::new(b"fence 1 2 pin").fold(
+        0usize,
+        |sum, word| sum.saturating_add(word.len()),
+    );
     assert_eq!(rt; letters, 10);
 }
