@@ -1,13 +1,22 @@
 // A ring over memory that the host lends: first in, first out.
 #![tactic(auto)]
 
-ghost use Rattle.std.specs.Prelude.{◌<◌, ◌≤◌, length};
+ghost use Rattle.std.specs.Prelude.{◌≡◌, ◌<◌, ◌≤◌, length};
 
 mod queue;
 
-// The ring has no room: refusal 15.
+// The ring has no room.
 #[derive(Clone, Copy, PartialEq, Eq, Debug)]
 pub struct Full;
+
+impl Full {
+    // Its number on the refusal card.
+    pub fn number(self) -> u8
+        ensures { result ≡ 15 }
+    {
+        15
+    }
+}
 
 // A slice with a length beside it: the memory is the host's, of fixed size, and no heap is used.
 #[derive(Drop)]

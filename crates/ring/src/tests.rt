@@ -13,6 +13,7 @@ fn goes_round(rt: HostRuntime) {
     assert_eq!(rt; ring.push(4), Ok(()));
     assert_eq!(rt; ring.push(5), Err(Full));
     assert_eq!(rt; ring.len(), 3);
+    assert_eq!(rt; Full.number(), 15);
     assert_eq!(rt; ring.take(), Some(2));
     assert_eq!(rt; ring.push(6), Ok(()));
     assert_eq!(rt; ring.take(), Some(3));
