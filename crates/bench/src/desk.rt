@@ -1,5 +1,6 @@
 // Takes the host lines that need no motion.
 ghost use Rattle.std.specs.Prelude.{◌≡◌, false, IfSome};
+ghost use Rattle.settings.specs.Values.{Started};
 
 use axis::interface::Axis;
 use codes::host::HostCode;
@@ -21,14 +22,20 @@ pub struct Desk {
 }
 
 impl Desk {
-    pub fn new<A: Axis>() -> Desk {
+    // At line 1, every parameter at its start.
+    pub fn new<A: Axis>() -> Desk
+        ensures pointer { result.pointer.number ≡ 1 }
+        ensures settings { Started A.Axis.res result.settings }
+    {
         Desk {
             settings: Settings::new::<A>(),
             pointer: LineNumber::first(),
         }
     }
 
-    pub fn settings(&self) -> &Settings {
+    pub fn settings(&self) -> &Settings
+        ensures { result.now ≡ self.now.settings }
+    {
         &self.settings
     }
 

@@ -1,4 +1,6 @@
 // What a run lends to the calls after it.
+ghost use Rattle.std.specs.Prelude.{◌≡◌, length, IfOk, OnOk};
+
 use orders::heard::Fields;
 use program::clearing::UNPROGRAMMED;
 use program::number::lines::LINES;
@@ -17,7 +19,10 @@ pub struct Lent {
 }
 
 impl Lent {
-    pub fn new(heap: Global) -> Result<Lent, AllocError> {
+    pub fn new(heap: Global) -> Result<Lent, AllocError>
+        ensures lines { IfOk result (λ lent. length lent.program.items ≡ 400) }
+        ensures room { IfOk result (λ lent. length lent.answer.items ≡ 64) }
+    {
         Ok(Lent {
             heap,
             program: vec![in heap; UNPROGRAMMED; LINES]?,
@@ -27,13 +32,19 @@ impl Lent {
     }
 
     // So many bytes for answers from now on.
-    pub fn room(&mut self, count: usize) -> Result<(), AllocError> {
+    pub fn room(&mut self, count: usize) -> Result<(), AllocError>
+        ensures room { OnOk result (length self.new.answer.items ≡ count) }
+        ensures lines { self.new.program ≡ self.old.program }
+    {
         self.answer = vec![in self.heap; 0; count]?;
         Ok(())
     }
 
     // So many program lines from now on: the program itself, where the number is that of its lines.
-    pub fn lend(&mut self, count: usize) -> Result<(), AllocError> {
+    pub fn lend(&mut self, count: usize) -> Result<(), AllocError>
+        ensures lines { self.new.program ≡ self.old.program }
+        ensures room { self.new.answer ≡ self.old.answer }
+    {
         self.other = if count == LINES {
             None
         } else {
