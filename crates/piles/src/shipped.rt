@@ -1,10 +1,12 @@
 // The standard pile, and another, to show that any pile is an axis.
 ghost use Rattle.std.specs.Prelude.{◌≡◌, false, pos, neg_ℤ};
-ghost use Rattle.axis.specs.Stands.{stand};
+ghost use Rattle.axis.specs.Stands.{stand, reach};
 ghost use Rattle.layers.specs.Allowances.{capped};
 ghost use Rattle.piles.specs.Piles.{standard_pile, phase_pile};
 
+use axis::direction::Direction;
 use axis::interface::Axis;
+use axis::stroke::out_and_back;
 use layers::allowance::Allowance;
 use layers::fence::Fence;
 use layers::reversed::Reversed;
@@ -37,4 +39,32 @@ pub fn fenced_phase(allowance: Allowance) -> FencedPhase
     ensures powered { phase_pile.powered result ≡ false }
 {
     Fence::new(Reversed::new(PhaseAxis::new()), allowance)
+}
+
+// A pile has the resolution of the drive at its bottom.
+pub fn standard_resolution() -> u32
+    ensures { result ≡ 10 }
+{
+    Standard::resolution()
+}
+
+pub fn phase_resolution() -> u32
+    ensures { result ≡ 2 }
+{
+    FencedPhase::resolution()
+}
+
+// How far a standard pile, wherever it stands, goes one way of n pulses; it ends where it began.
+pub fn standard_travel(pile: &mut Standard, way: Direction, n: u32) -> u32
+    ensures taken { pos result ≡ reach way n (stand standard_pile pile.old) }
+    ensures after { stand standard_pile pile.new ≡ stand standard_pile pile.old }
+{
+    out_and_back::<Standard>(pile, way, n)
+}
+
+pub fn phase_travel(pile: &mut FencedPhase, way: Direction, n: u32) -> u32
+    ensures taken { pos result ≡ reach way n (stand phase_pile pile.old) }
+    ensures after { stand phase_pile pile.new ≡ stand phase_pile pile.old }
+{
+    out_and_back::<FencedPhase>(pile, way, n)
 }

@@ -2,10 +2,13 @@
 use axis::direction::Direction;
 use axis::interface::Axis;
 use axis::speeds::{starting_speed, top_speed};
-use axis::stroke::{out_and_back, stroke};
+use axis::stroke::stroke;
 use layers::allowance::Allowance;
 use layers::fence::Fence;
-use piles::shipped::{FencedPhase, Standard, fenced_phase, standard};
+use piles::shipped::{
+    FencedPhase, Standard, fenced_phase, phase_resolution, phase_travel, standard,
+    standard_resolution, standard_travel,
+};
 use pin::drive::PinAxis;
 use std::test::Fail;
 
@@ -109,21 +112,21 @@ fn piles_turn(rt: HostRuntime) {
     });
     assert!(rt; !pile.pulse(CW));
     pile.set_windings(true);
-    assert_eq!(rt; out_and_back(&mut pile, CW, 2_000), 500);
-    assert_eq!(rt; out_and_back(&mut pile, CCW, 2_000), 1_000);
+    assert_eq!(rt; standard_travel(&mut pile, CW, 2_000), 500);
+    assert_eq!(rt; standard_travel(&mut pile, CCW, 2_000), 1_000);
     let mut phase = fenced_phase(Allowance { down: 20, up: 10 });
     phase.set_windings(true);
-    assert_eq!(rt; out_and_back(&mut phase, CW, 2_000), 10);
-    assert_eq!(rt; out_and_back(&mut phase, CCW, 2_000), 20);
+    assert_eq!(rt; phase_travel(&mut phase, CW, 2_000), 10);
+    assert_eq!(rt; phase_travel(&mut phase, CCW, 2_000), 20);
 }
 
 // No contract names a layer's constant: here each is compared with what the contracts say.
 #[test]
 fn resolutions_pass_through(rt: HostRuntime) {
     assert_eq!(rt; Standard::R, 10);
-    assert_eq!(rt; Standard::resolution(), 10);
+    assert_eq!(rt; standard_resolution(), 10);
     assert_eq!(rt; FencedPhase::R, 2);
-    assert_eq!(rt; FencedPhase::resolution(), 2);
+    assert_eq!(rt; phase_resolution(), 2);
     assert_eq!(rt; top_speed::<Standard>(), 115_000);
     assert_eq!(rt; starting_speed::<FencedPhase>(), 2_000);
 }
