@@ -7,6 +7,7 @@ ghost use Rattle.clerk.specs.Tellings.{told, written};
 use crate::refusal::Refusal;
 use reply::slip::Slip;
 
+pub mod card;
 pub mod refusal;
 
 // How many bytes the answer has at the front of its memory: a count, of which silence has none. A refused line tells its own refusal, whatever the memory.

@@ -3,7 +3,7 @@ ghost use Rattle.std.specs.Prelude.{◌≡◌, Some};
 ghost use Rattle.clerk.specs.Refusals.{number_of, place_of, printed};
 ghost use Rattle.clerk.specs.declared.refusal.Refusal.TheVariants as fault;
 
-use program::fault::OrderFault;
+use crate::card::OnCard;
 use reply::slip::settling::NoRoom;
 use std::fmt;
 
@@ -23,10 +23,10 @@ impl<F> From<NoRoom> for Refusal<F> {
     }
 }
 
-impl Refusal<OrderFault> {
+impl<F: OnCard> Refusal<F> {
     // Its number on the refusal card.
     pub fn number(self) -> u8
-        ensures { result ≡ number_of self }
+        ensures { result ≡ number_of F.OnCard.number self }
     {
         match self {
             Refusal::Line(fault) => fault.number(),
@@ -36,7 +36,7 @@ impl Refusal<OrderFault> {
 
     // The place of the byte or word; 0, as on the card, where there is none.
     pub fn place(self) -> usize
-        ensures { result ≡ place_of self }
+        ensures { result ≡ place_of F.OnCard.place self }
     {
         match self {
             Refusal::Line(fault) => fault.place(),
@@ -46,8 +46,8 @@ impl Refusal<OrderFault> {
 }
 
 // As a WordFault prints itself: one impl for all that has a number and a place is not allowed.
-impl fmt::Display for Refusal<OrderFault> {
-    ghost output = { λ refusal. Some (printed refusal) };
+impl<F: OnCard> fmt::Display for Refusal<F> {
+    ghost output = { λ refusal. Some (printed F.OnCard.number F.OnCard.place refusal) };
 
     fn fmt<W: fmt::Write>(&self, f: &mut fmt::Formatter<W>) -> fmt::Result {
         write!(f, "refused {} at {}", self.number(), self.place())
