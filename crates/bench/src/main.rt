@@ -122,20 +122,20 @@ struct Rows<'a, I, O> {
 }
 
 impl<I: Read + Drop, O: Write> Rows<'_, I, O> {
-    fn on<A: Axis + Drive + Drop>(self, axis: A) -> io::Result<()> {
+    fn on<A: Axis + Drive + Drop>(self, mut axis: A) -> io::Result<()> {
         let Rows {
             heap,
             first,
             source,
             out,
         } = self;
-        let mut session = Session::new(heap, axis)?;
+        let mut session = Session::new::<A>(heap)?;
         let mut next = first;
         // Counted: a loop with no bound wants a handle that waits, and none is allowed.
         for _ in 0..u64::MAX {
             let done = match next {
                 Ok(None) => break,
-                Ok(Some(row)) => session.perform(row, source.line(), out),
+                Ok(Some(row)) => session.perform(&mut axis, row, source.line(), out),
                 Err(fault) => Err(fault),
             };
             match done {

@@ -17,40 +17,41 @@ use std::io;
 use std::io::Write;
 
 #[derive(Drop)]
-pub struct Session<A> {
-    axis: A,
+pub struct Session {
     desk: Desk,
     lent: Lent,
 }
 
-impl<A: Axis + Drive + Drop> Session<A> {
-    pub fn new(heap: Global, axis: A) -> Result<Session<A>, AllocError> {
+impl Session {
+    pub fn new<A: Axis>(heap: Global) -> Result<Session, AllocError> {
         Ok(Session {
-            axis,
             desk: Desk::new::<A>(),
             lent: Lent::new(heap)?,
         })
     }
 
     // Does what a row asks for; where the row has a host line, that is `line`.
-    pub fn perform<O: Write>(&mut self, row: Row, line: &[u8], out: &mut O) -> Result<(), Fault> {
+    // The axis is no field of the session: as one it would be kept in memory, and each pulse would take three times as long.
+    pub fn perform<A: Axis + Drive, O: Write>(
+        &mut self,
+        axis: &mut A,
+        row: Row,
+        line: &[u8],
+        out: &mut O,
+    ) -> Result<(), Fault> {
         match row {
             Row::Remark => {}
             Row::Axis(_) => return Err(Fault::Mistake(Mistake::LateAxis)),
             Row::Windings { on } => {
-                self.axis.set_windings(on);
-                writeln!(
-                    out,
-                    "windings {}",
-                    if self.axis.is_on() { "on" } else { "off" }
-                )?;
+                axis.set_windings(on);
+                writeln!(out, "windings {}", if axis.is_on() { "on" } else { "off" })?;
             }
             Row::Pulse { way, count } => {
-                let taken = stroke(&mut self.axis, way, count);
+                let taken = stroke(axis, way, count);
                 writeln!(out, "taken {taken} of {count}")?;
             }
             Row::Drive => {
-                let shown = self.axis.shown();
+                let shown = axis.shown();
                 writeln!(out, "{shown}")?;
             }
             Row::Ramp { pace, count } => {

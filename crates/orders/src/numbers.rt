@@ -15,10 +15,7 @@ use words::word::Sign;
 pub fn is_home(code: Digits<'_>) -> bool
     ensures { result ≡ (value (kept Code code.entry.bytes.now) == 8) }
 {
-    matches!(
-        Parameter::coded(code.value(Field::Code)),
-        Some(Parameter::HomeDirection)
-    )
+    code.value(Field::Code) == u32::from(Parameter::HomeDirection.code())
 }
 
 fn with_sign(sign: Option<Sign>, size: u32) -> i32

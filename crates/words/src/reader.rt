@@ -41,28 +41,29 @@ impl<'a> Reader<'a> {
     }
 }
 
-// The word of this letter and what stands behind it, if it is a letter.
+// The word of this letter and what stands behind it, if it is a letter; of any other byte what stands behind is not looked at.
 fn opened(opening: u8, place: usize, body: &[u8]) -> Option<(Word<'_>, &[u8])>
     ensures letter { IsSome result ↔ (letter opening ≡ true) }
     ensures word { IfSome result (λ r. spelled r.0 ≡ word_of place opening body.now) }
     ensures behind { IfSome result (λ r. r.1.now ≡ behind opening body.now) }
 {
-    let (digits, behind) = run_of_digits(body);
+    let (sign, number) = match char::from(opening) {
+        'X' => signed(body),
+        'N' | 'G' | 'F' | 'L' | 'H' => (None, body),
+        _ => return None,
+    };
+    let (digits, behind) = run_of_digits(number);
     match char::from(opening) {
         'N' => Some((Word::N { place, digits }, behind)),
         'G' => Some((Word::G { place, digits }, behind)),
-        'X' => {
-            let (sign, number) = signed(body);
-            let (digits, behind) = run_of_digits(number);
-            Some((
-                Word::X {
-                    place,
-                    sign,
-                    digits,
-                },
-                behind,
-            ))
-        }
+        'X' => Some((
+            Word::X {
+                place,
+                sign,
+                digits,
+            },
+            behind,
+        )),
         'F' => Some((Word::F { place, digits }, behind)),
         'L' => {
             let (sign, number) = signed(trimmed(behind));
