@@ -25,27 +25,27 @@ rounded_up m d some =
     let b = div_ceil_times m d some in
     le_antisymm ((le-div_iff_mul-le some).1 (omega (arith, b.1))) (steps_least m d (div_ceil m d) some (omega (arith, b.0, mul_comm d (div_ceil m d))))
 
-steps_some : (m d : ℕ) → 1 ≤ d → 1 ≤ m → 1 ≤ (m + (d - 1)) / d
+pub steps_some : (m d : ℕ) → 1 ≤ d → 1 ≤ m → 1 ≤ (m + (d - 1)) / d
 steps_some m d some h = let enough : 1 * d ≤ m + (d - 1) = omega arith in (le-div_iff_mul-le some).1 enough
 
-faster : (L V : ℕ) → L < V → L * L + 1 ≤ V * V
+pub faster : (L V : ℕ) → L < V → L * L + 1 ≤ V * V
 faster L V h = omega (arith, square_mono (L + 1) V (omega arith), square_next L)
 
 -- the lift is at most one step
-lift_fits : (L V d : ℕ) → L < V → 1 ≤ d → lift L ≤ (V * V - L * L + (d - 1)) / d
+pub lift_fits : (L V d : ℕ) → L < V → 1 ≤ d → lift L ≤ (V * V - L * L + (d - 1)) / d
 lift_fits L V d h some =
     let one = steps_some (V * V - L * L) d some (omega (arith, faster L V h)) in
     grind (arith, nat_tests)
 
 module _ (L V d z : ℕ) (h : L < V) (some : 1 ≤ d) (lifted : z ≤ (V * V - L * L + (d - 1)) / d) where
   -- at the ceiling V is reached
-  reaches : V ≤ root (L * L + d * ((V * V - L * L + (d - 1)) / d - z + z))
+  pub reaches : V ≤ root (L * L + d * ((V * V - L * L + (d - 1)) / d - z + z))
   reaches =
       let q : (V * V - L * L + (d - 1)) / d - z + z ≡ (V * V - L * L + (d - 1)) / d = omega arith in
       rw q (below_root V _ _ (omega (arith, steps_reach (V * V - L * L) d some, faster L V h)) (root_high _))
 
   -- where V is reached the ceiling is
-  not_before : (s : ℕ) → V ≤ root (L * L + d * (s + z)) → (V * V - L * L + (d - 1)) / d - z ≤ s
+  pub not_before : (s : ℕ) → V ≤ root (L * L + d * (s + z)) → (V * V - L * L + (d - 1)) / d - z ≤ s
   not_before s up =
       let square : V * V ≤ L * L + d * (s + z) = le_trans (square_mono V _ up) (root_low (L * L + d * (s + z))) in
       let most : (V * V - L * L + (d - 1)) / d ≤ s + z = steps_least (V * V - L * L) d (s + z) some (omega arith) in
