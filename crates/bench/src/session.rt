@@ -31,7 +31,7 @@ impl Session {
     }
 
     // Does what a row asks for; where the row has a host line, that is `line`.
-    // The axis is no field of the session: as one it would be kept in memory, and each pulse would take three times as long.
+    // The axis is no field of the session: as one it would be kept in memory, and a pulse of the standard pile would take over half as long again.
     pub fn perform<A: Axis + Drive, O: Write>(
         &mut self,
         axis: &mut A,

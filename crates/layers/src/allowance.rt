@@ -27,7 +27,7 @@ impl Allowance {
     pub fn allows(self, net: i32) -> bool
         ensures { result ≡ allows self net }
     {
-        // Two comparisons, as wide as the numbers: asked of a range of wider ones, each pulse of a fence takes three times as long.
+        // Two comparisons, as wide as the numbers: asked of a range of wider ones, a pulse of the standard pile takes over half as long again.
         let bottom = 0i32.saturating_sub_unsigned(self.down);
         let top = 0i32.saturating_add_unsigned(self.up);
         bottom <= net && net <= top
